@@ -1,0 +1,4 @@
+pub mod Answer
+pub mod Field
+pub mod Numbers
+pub mod Pack

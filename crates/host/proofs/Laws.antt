@@ -1,0 +1,28 @@
+-- How an answer comes to be told.
+-- Assumes nothing.
+use mathlib.Core.Path.{_≡_, refl, sym, ap, _∙_}
+use mathlib.Core.Bool.{Bool, true, false}
+use mathlib.Core.List.{List, [], _∷_}
+use Prim.Native.Nat.{ℕ}
+use mir.Val.{boolByte}
+use Rattle.bits.specs.Answer.{Answer, answer}
+use Rattle.timestamp.specs.Stamp.{makeStamp, likelyWrapped}
+use Rattle.timestamp.proofs.Laws.{made-value}
+use Rattle.host.specs.Stamps.{wrapAnswer}
+use Rattle.host.specs.Told.{Told, truth}
+
+-- what tells an answer tells one that is equal to it
+pub told-as : {a b : Answer} (e : a ≡ b) (w : ℕ) (lent left : List ℕ) → Told b w lent left → Told a w lent left
+told-as e w lent left t = rw e t
+
+-- a cast of a truth value is its number
+pub byte-truth : (b : Bool) → boolByte b ≡ truth b
+byte-truth true = refl
+byte-truth false = refl
+
+-- two numbers of which timestamps were made
+pub wrap-told : (v s x y : ℕ) (b : Bool) (lent : List ℕ) → answer 0 (x ∷ []) ≡ makeStamp v → answer 0 (y ∷ []) ≡ makeStamp s → b ≡ likelyWrapped x y
+    → Told (wrapAnswer v s) 0 lent (boolByte b ∷ [])
+wrap-told v s x y b lent p q e =
+    let f : b ≡ likelyWrapped v s = rw (made-value v x p, made-value s y q) at e in
+    rw (← p, ← q) (refl, ap (λ (n : ℕ). n ∷ []) (byte-truth b ∙ ap truth f))

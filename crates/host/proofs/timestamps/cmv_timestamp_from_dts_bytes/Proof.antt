@@ -1,0 +1,12 @@
+use mathlib.Core.Path.{sym}
+use Rattle.host.proofs.Laws.{told-as}
+use borrow.Author.Needs.{needs}
+use Rattle.host.proofs.timestamps.cmv_timestamp_from_dts_bytes.Statement.{statement}
+use Rattle.host.proofs.timestamps.cmv_timestamp_from_dts_bytes.Tie as tie
+
+returns : tie.Need-returns
+returns c = told-as (sym (c .before .before .from-dts-bytes .ensures)) _ _ _ (c .tell .ensures)
+
+pub cmv-timestamp-from-dts-bytes-spec : {M : Type 1} → statement M
+cmv-timestamp-from-dts-bytes-spec =
+    tie.close (tie.spec (λ c κs. search needs) (λ c κs. search needs) returns)
