@@ -3,7 +3,7 @@ use mathlib.Core.Bool.{Bool, true, false}
 use mathlib.Core.List.{List, [], _∷_}
 use Prim.Native.Nat.{ℕ}
 use lib.Dec.{eqb}
-use Rattle.bits.specs.Numbers.{done}
+use Rattle.bits.specs.Numbers.{done, outOfRange}
 
 pub record Answer : Type 0 where
   pub number : ℕ
@@ -20,6 +20,10 @@ pick false a b = b
 -- the first answer where it is a refusal, else the second: what is asked first is answered first
 abbrev pub andThen : Answer → Answer → Answer
 andThen a b = pick (eqb (a .number) done) b a
+
+-- the values where the test of their range holds, else 14
+abbrev pub limited : Bool → List ℕ → Answer
+limited fits vs = pick fits (answer done vs) (answer outOfRange [])
 
 -- each entry of a list has the property
 abbrev pub All {ℓ} : {A : Type ℓ} → (A → Type 0) → List A → Type 0

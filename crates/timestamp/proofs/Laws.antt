@@ -1,7 +1,6 @@
 -- What the definitions of `specs/Stamp.antt` come to on the bytes, in each case. The functions' proofs cite these, and so do callers'.
 -- Assumes nothing.
 use mathlib.Core.Path.{_≡_, refl, sym, ap, _∙_}
-use mathlib.Core.Bool.{Bool, true, false}
 use mathlib.Core.List.{List, [], _∷_}
 use Prim.Native.Nat.{ℕ, _+_, _-_, _*_, _/_, _%_, _^_, _≤_, _<_}
 use native.Mathlib.Omega.{arith}
@@ -11,6 +10,7 @@ use borrow.Author.Tests.{lt-ltb, le-ltb, le-leb, lt-leb, eq-eqb, ne-eqb}
 use Rattle.bits.specs.Answer.{Answer, answer, pick}
 use Rattle.bits.specs.Field.{bit, field}
 use Rattle.bits.proofs.Fields.{field-split, in-byte}
+use Rattle.bits.proofs.Tests.{limited-in, limited-out, limited-values}
 use Rattle.timestamp.specs.Stamp.{stampValue, readStamp, readPrefixed, likelyWrapped, makeStamp}
 
 -- the value, out of the five bytes
@@ -73,20 +73,16 @@ module _ (xs : List ℕ) where
 module _ (v : ℕ) where
   pub made : v < 2 ^ 34 → answer 0 (v ∷ []) ≡ makeStamp v
   unfolding makeStamp
-  made h = simp (lt-ltb v (2 ^ 34) h)
-
-  -- a timestamp that was made has the number that it was made of
-  pub made-value : (x : ℕ) → answer 0 (x ∷ []) ≡ makeStamp v → x ≡ v
-  unfolding makeStamp
-  made-value x e = go (ltb v (2 ^ 34)) e
-    where
-      go : (b : Bool) → answer 0 (x ∷ []) ≡ pick b (answer 0 (v ∷ [])) (answer 14 []) → x ≡ v
-      go true e = ap (λ (a : Answer). getD (a .values) 0 0) e
-      go false e = let z : _≡_ {A = ℕ} 0 14 = ap (λ (a : Answer). a .number) e in absurd (omega arith)
+  made h = limited-in v (2 ^ 34) (v ∷ []) h
 
   pub not-made : 2 ^ 34 ≤ v → answer 14 [] ≡ makeStamp v
   unfolding makeStamp
-  not-made h = simp (le-ltb v (2 ^ 34) h)
+  not-made h = limited-out v (2 ^ 34) (v ∷ []) h
+
+-- a timestamp that was made has the number that it was made of
+pub made-value : (v x : ℕ) → answer 0 (x ∷ []) ≡ makeStamp v → x ≡ v
+unfolding makeStamp
+made-value v x e = ap (λ (vs : List ℕ). getD vs 0 0) (limited-values (ltb v (2 ^ 34)) (x ∷ []) (v ∷ []) e)
 
 module _ (a s : ℕ) where
   pub wrapped-le : a ≤ s → leb (2 ^ 32) (s - a) ≡ likelyWrapped a s

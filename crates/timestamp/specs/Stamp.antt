@@ -5,7 +5,7 @@ use mathlib.Core.List.{List, [], _∷_}
 use Prim.Native.Nat.{ℕ, _+_, _-_, _*_, _/_, _^_}
 use lib.ListN.{length}
 use lib.Dec.{eqb, leb, ltb}
-use Rattle.bits.specs.Answer.{Answer, answer, pick}
+use Rattle.bits.specs.Answer.{Answer, answer, pick, limited}
 use Rattle.bits.specs.Field.{bit, field}
 use Rattle.bits.specs.Numbers.{done, wrongLength, markerBitNotSet, incorrectPrefixBits, outOfRange}
 use Rattle.bits.specs.Pack.{Part, part, joined, bytesOf}
@@ -70,4 +70,4 @@ givenMade (TimestampMade.Done t) = answer done (t .val ∷ [])
 givenMade TimestampMade.OutOfRange = answer outOfRange []
 
 unfoldable pub makeStamp : ℕ → Answer
-makeStamp v = pick (ltb v (2 ^ 34)) (answer done (v ∷ [])) (answer outOfRange [])
+makeStamp v = limited (ltb v (2 ^ 34)) (v ∷ [])

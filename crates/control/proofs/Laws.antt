@@ -1,0 +1,140 @@
+-- What the definitions of `specs/` come to on the bytes, in each case. The functions' proofs cite these, and so do callers'.
+-- Assumes nothing.
+use mathlib.Core.Path.{_≡_, refl, sym, ap, _∙_}
+use mathlib.Core.Bool.{true, false, not}
+use mathlib.Core.List.{List, [], _∷_}
+use Prim.Native.Nat.{ℕ, _+_, _*_, _/_, _%_, _^_, _≤_, _<_}
+use native.Mathlib.Omega.{arith}
+use lib.ListN.{length, getD}
+use lib.Dec.{eqb, ltb}
+use borrow.Author.Tests.{lt-ltb, le-ltb, eq-eqb, ne-eqb}
+use Rattle.bits.specs.Answer.{Answer, answer, pick}
+use Rattle.bits.specs.Field.{bit, field}
+use Rattle.bits.proofs.Fields.{field-split, in-byte}
+use Rattle.bits.proofs.Tests.{limited-in, limited-out}
+use Rattle.control.specs.declared.ClockRef.{ClockRef}
+use Rattle.control.specs.declared.Scheme.{Scheme}
+use Rattle.control.specs.Clock.{clockBase, clockExtension, clockFits, readClock, makeClock, clockNumber, sameClock}
+use Rattle.control.specs.Control.{hasAdaptationField, hasPayload, scrambling, isScrambled, schemeOf, follows, makeCounter, makePid}
+
+-- the fourth byte
+module _ (b : ℕ) where
+  pub payload-bit : eqb (b / 16 % 2) 1 ≡ hasPayload b
+  unfolding hasPayload bit
+  payload-bit = refl
+
+  pub adaptation-bit : eqb (b / 32 % 2) 1 ≡ hasAdaptationField b
+  unfolding hasAdaptationField bit
+  adaptation-bit = refl
+
+  pub scrambling-is : b < 256 → scrambling b ≡ b / 64
+  unfolding scrambling
+  scrambling-is h = omega (arith, in-byte (b ∷ []) 0 0 2 6 refl)
+
+  pub scrambled-is : b < 256 → not (eqb (b / 64) 0) ≡ isScrambled b
+  unfolding isScrambled
+  scrambled-is h = ap (λ (n : ℕ). not (eqb n 0)) (sym (scrambling-is h))
+
+  pub scheme-some : (v : ℕ) → (b < 256) × (v ≡ b / 64) × (v ≡ 0 → ⊥) → Scheme.Scrambled v ≡ schemeOf b
+  unfolding schemeOf
+  scheme-some v h =
+      let e : scrambling b ≡ v = scrambling-is (h .0) ∙ sym (h .1) in
+      simp (e, ne-eqb v 0 (h .2))
+
+  pub scheme-none : (b < 256) × (b / 64 ≡ 0) → Scheme.NotScrambled ≡ schemeOf b
+  unfolding schemeOf
+  scheme-none h = simp (eq-eqb (scrambling b) 0 (omega (arith, scrambling-is (h .0))))
+
+pub follows-is : (a b : ℕ) → eqb ((b % 16 + 1) % 16) a ≡ follows a b
+unfolding follows
+follows-is a b =
+    let e : (b % 16 + 1) % 16 ≡ (b + 1) % 16 = omega arith in
+    ap (λ (n : ℕ). eqb n a) e
+
+-- clock references
+module _ (xs : List ℕ) where
+  -- in two steps: with all bytes at once the equation has too many unknowns for `omega`
+  upper : field xs 0 16 ≡ getD xs 0 0 % 256 * 2 ^ 8 + getD xs 1 0 % 256
+  upper = omega (arith, field-split xs 0 8 8, in-byte xs 0 0 8 0 refl, in-byte xs 1 0 8 0 refl)
+
+  lower : field xs 16 17 ≡ getD xs 2 0 % 256 * 2 ^ 9 + (getD xs 3 0 % 256 * 2 + getD xs 4 0 / 128 % 2)
+  lower = omega (arith, field-split xs 16 8 9, field-split xs 24 8 1, in-byte xs 2 0 8 0 refl, in-byte xs 3 0 8 0 refl, in-byte xs 4 0 1 7 refl)
+
+  pub base-of : clockBase xs ≡ (getD xs 0 0 % 256 * 2 ^ 25 + getD xs 1 0 % 256 * 2 ^ 17) + (getD xs 2 0 % 256 * 2 ^ 9 + (getD xs 3 0 % 256 * 2 + getD xs 4 0 / 128 % 2))
+  unfolding clockBase
+  base-of = field-split xs 0 16 17 ∙ rw (upper, lower) (omega arith)
+
+  pub extension-of : clockExtension xs ≡ getD xs 4 0 % 2 * 256 + getD xs 5 0 % 256
+  unfolding clockExtension
+  extension-of = omega (arith, field-split xs 39 1 8, in-byte xs 4 7 1 0 refl, in-byte xs 5 0 8 0 refl)
+
+  pub clock-short : length xs < 6 → answer 1 [] ≡ readClock xs
+  unfolding readClock
+  clock-short h = simp (lt-ltb (length xs) 6 h)
+
+  pub clock-done : (b e : ℕ) → (6 ≤ length xs)
+      × (b ≡ (getD xs 0 0 % 256 * 2 ^ 25 + getD xs 1 0 % 256 * 2 ^ 17) + (getD xs 2 0 % 256 * 2 ^ 9 + (getD xs 3 0 % 256 * 2 + getD xs 4 0 / 128 % 2)))
+      × (e ≡ getD xs 4 0 % 2 * 256 + getD xs 5 0 % 256) → answer 0 (b ∷ e ∷ []) ≡ readClock xs
+  unfolding readClock
+  clock-done b e h = simp (le-ltb (length xs) 6 (h .0), h .1, h .2, base-of, extension-of)
+
+fits-in : (b e : ℕ) → (b < 2 ^ 33) × (e < 2 ^ 9) → clockFits b e ≡ true
+fits-in b e h = simp (lt-ltb b (2 ^ 33) (h .0), lt-ltb e (2 ^ 9) (h .1))
+
+base-out : (b e : ℕ) → 2 ^ 33 ≤ b → clockFits b e ≡ false
+base-out b e h = simp (le-ltb b (2 ^ 33) h)
+
+extension-out : (b e : ℕ) → (b < 2 ^ 33) × (2 ^ 9 ≤ e) → clockFits b e ≡ false
+extension-out b e h = simp (lt-ltb b (2 ^ 33) (h .0), le-ltb e (2 ^ 9) (h .1))
+
+module _ (b e : ℕ) where
+  pub made : (b < 2 ^ 33) × (e < 2 ^ 9) → answer 0 (b ∷ e ∷ []) ≡ makeClock b e
+  unfolding makeClock
+  made h = simp (fits-in b e h)
+
+  pub made-base-out : 2 ^ 33 ≤ b → answer 14 [] ≡ makeClock b e
+  unfolding makeClock
+  made-base-out h = simp (base-out b e h)
+
+  pub made-extension-out : (b < 2 ^ 33) × (2 ^ 9 ≤ e) → answer 14 [] ≡ makeClock b e
+  unfolding makeClock
+  made-extension-out h = simp (extension-out b e h)
+
+  pub number-in : (b < 2 ^ 33) × (e < 2 ^ 9) → answer 0 ((b * 300 + e) ∷ []) ≡ clockNumber b e
+  unfolding clockNumber
+  number-in h = simp (fits-in b e h)
+
+  pub number-base-out : 2 ^ 33 ≤ b → answer 14 [] ≡ clockNumber b e
+  unfolding clockNumber
+  number-base-out h = simp (base-out b e h)
+
+  pub number-extension-out : (b < 2 ^ 33) × (2 ^ 9 ≤ e) → answer 14 [] ≡ clockNumber b e
+  unfolding clockNumber
+  number-extension-out h = simp (extension-out b e h)
+
+-- counters and PIDs
+pub counter-in : (n : ℕ) → n < 16 → answer 0 (n ∷ []) ≡ makeCounter n
+unfolding makeCounter
+counter-in n h = limited-in n (2 ^ 4) (n ∷ []) h
+
+pub counter-out : (n : ℕ) → 16 ≤ n → answer 14 [] ≡ makeCounter n
+unfolding makeCounter
+counter-out n h = limited-out n (2 ^ 4) (n ∷ []) h
+
+pub pid-in : (n : ℕ) → n < 8192 → answer 0 (n ∷ []) ≡ makePid n
+unfolding makePid
+pid-in n h = limited-in n (2 ^ 13) (n ∷ []) h
+
+pub pid-out : (n : ℕ) → 8192 ≤ n → answer 14 [] ≡ makePid n
+unfolding makePid
+pid-out n h = limited-out n (2 ^ 13) (n ∷ []) h
+
+module _ (a b : ClockRef) where
+  pub same-base : a .base ≡ b .base → eqb (a .extension) (b .extension) ≡ sameClock a b
+  unfolding sameClock
+  same-base h = simp (eq-eqb (a .base) (b .base) h)
+
+  -- the answer of `&&` where its first half fails is that half
+  pub other-base : (a .base ≡ b .base → ⊥) → eqb (a .base) (b .base) ≡ sameClock a b
+  unfolding sameClock
+  other-base h = simp (ne-eqb (a .base) (b .base) h)

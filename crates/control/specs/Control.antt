@@ -1,0 +1,49 @@
+-- The packet's fourth byte (clause 2.4.3.2, the transport packet table): transport_scrambling_control 2 bits,
+-- adaptation_field_control 2 bits, continuity_counter 4 bits; and the numbers of counters and PIDs.
+use mathlib.Core.Bool.{Bool, not}
+use mathlib.Core.List.{List, [], _∷_}
+use Prim.Native.Nat.{ℕ, _+_, _%_, _^_}
+use lib.Dec.{eqb, ltb}
+use Rattle.bits.specs.Answer.{Answer, answer, pick, limited}
+use Rattle.bits.specs.Field.{field, flag}
+use Rattle.bits.specs.Numbers.{done, outOfRange}
+use Rattle.control.specs.declared.CounterMade.{CounterMade}
+use Rattle.control.specs.declared.PidMade.{PidMade}
+use Rattle.control.specs.declared.Scheme.{Scheme}
+
+-- adaptation_field_control: its first bit says that there is an adaptation field, its second that there is a payload
+unfoldable pub hasAdaptationField : ℕ → Bool
+hasAdaptationField b = flag (b ∷ []) 2
+
+unfoldable pub hasPayload : ℕ → Bool
+hasPayload b = flag (b ∷ []) 3
+
+-- transport_scrambling_control: 00 is not scrambled
+unfoldable pub scrambling : ℕ → ℕ
+scrambling b = field (b ∷ []) 0 2
+
+unfoldable pub isScrambled : ℕ → Bool
+isScrambled b = not (eqb (scrambling b) 0)
+
+-- the scheme: its number, or none where the packet is not scrambled
+unfoldable pub schemeOf : ℕ → Scheme
+schemeOf b = pick (eqb (scrambling b) 0) Scheme.NotScrambled (Scheme.Scrambled (scrambling b))
+
+-- a counter has 4 bits, and follows another that is one less, modulo 16
+abbrev pub givenCounter : CounterMade → Answer
+givenCounter (CounterMade.Done c) = answer done (c .val ∷ [])
+givenCounter CounterMade.OutOfRange = answer outOfRange []
+
+unfoldable pub makeCounter : ℕ → Answer
+makeCounter n = limited (ltb n (2 ^ 4)) (n ∷ [])
+
+unfoldable pub follows : ℕ → ℕ → Bool
+follows a before = eqb ((before + 1) % 2 ^ 4) a
+
+-- a PID has 13 bits
+abbrev pub givenPid : PidMade → Answer
+givenPid (PidMade.Done p) = answer done (p .0 ∷ [])
+givenPid PidMade.OutOfRange = answer outOfRange []
+
+unfoldable pub makePid : ℕ → Answer
+makePid n = limited (ltb n (2 ^ 13)) (n ∷ [])
