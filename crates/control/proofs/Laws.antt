@@ -15,7 +15,7 @@ use Rattle.bits.proofs.Tests.{limited-in, limited-out}
 use Rattle.control.specs.declared.ClockRef.{ClockRef}
 use Rattle.control.specs.declared.Scheme.{Scheme}
 use Rattle.control.specs.Clock.{clockBase, clockExtension, clockFits, readClock, makeClock, clockNumber, sameClock}
-use Rattle.control.specs.Control.{hasAdaptationField, hasPayload, scrambling, isScrambled, schemeOf, follows, makeCounter, makePid}
+use Rattle.control.specs.Control.{hasAdaptationField, hasPayload, scrambling, isScrambled, schemeOf, follows, makeCounter, counterOf, makePid, pidOf}
 
 -- the fourth byte
 module _ (b : ℕ) where
@@ -113,6 +113,14 @@ module _ (b e : ℕ) where
   number-extension-out h = simp (extension-out b e h)
 
 -- counters and PIDs
+pub counter-is : (b : ℕ) → b % 16 ≡ counterOf b
+unfolding counterOf
+counter-is b = omega (arith, in-byte (b ∷ []) 0 4 4 0 refl)
+
+pub pid-is : (h l : ℕ) → l < 256 → h % 32 * 256 + l ≡ pidOf h l
+unfolding pidOf
+pid-is h l b = omega (arith, field-split (h ∷ l ∷ []) 3 5 8, in-byte (h ∷ l ∷ []) 0 3 5 0 refl, in-byte (h ∷ l ∷ []) 1 0 8 0 refl)
+
 pub counter-in : (n : ℕ) → n < 16 → answer 0 (n ∷ []) ≡ makeCounter n
 unfolding makeCounter
 counter-in n h = limited-in n (2 ^ 4) (n ∷ []) h

@@ -40,6 +40,10 @@ makeCounter n = limited (ltb n (2 ^ 4)) (n ∷ [])
 unfoldable pub follows : ℕ → ℕ → Bool
 follows a before = eqb ((before + 1) % 2 ^ 4) a
 
+-- continuity_counter, in the fourth byte
+unfoldable pub counterOf : ℕ → ℕ
+counterOf b = field (b ∷ []) 4 4
+
 -- a PID has 13 bits
 abbrev pub givenPid : PidMade → Answer
 givenPid (PidMade.Done p) = answer done (p .0 ∷ [])
@@ -47,3 +51,7 @@ givenPid PidMade.OutOfRange = answer outOfRange []
 
 unfoldable pub makePid : ℕ → Answer
 makePid n = limited (ltb n (2 ^ 13)) (n ∷ [])
+
+-- PID, in the second and third bytes: the last 13 of their bits
+unfoldable pub pidOf : ℕ → ℕ → ℕ
+pidOf high low = field (high ∷ low ∷ []) 3 13

@@ -1,7 +1,7 @@
 // The small types of the original's packet.rs: the control bits of a packet's fourth byte, clock references, counters and PIDs.
 ghost use mathlib.Core.Path.{_≡_};
 ghost use Rattle.control.specs.Clock.{givenRead, givenMade, givenNumber, readClock, makeClock, clockNumber, sameClock};
-ghost use Rattle.control.specs.Control.{hasAdaptationField, hasPayload, isScrambled, schemeOf, follows, givenCounter, makeCounter, givenPid, makePid};
+ghost use Rattle.control.specs.Control.{hasAdaptationField, hasPayload, isScrambled, schemeOf, follows, givenCounter, makeCounter, counterOf, givenPid, makePid, pidOf};
 use bits::wide;
 
 // The adaptation_field_control bits; the other bits of the byte are kept and not looked at.
@@ -169,6 +169,13 @@ impl ContinuityCounter {
         }
     }
 
+    // Of the fourth byte of a packet.
+    pub fn from_byte_four(val: u8) -> ContinuityCounter
+        ensures { λ r. ⌜ r .val ≡ counterOf val ⌝ }
+    {
+        ContinuityCounter { val: val % 16 }
+    }
+
     pub fn count(self) -> u8
         ensures { λ r. ⌜ r ≡ self .val ⌝ }
     {
@@ -211,6 +218,13 @@ impl Pid {
         ensures { λ r. ⌜ givenPid r ≡ makePid value ⌝ }
     {
         Pid::new(value)
+    }
+
+    // Of the second and third bytes of a packet.
+    pub fn from_bytes(high: u8, low: u8) -> Pid
+        ensures { λ r. ⌜ r .0 ≡ pidOf high low ⌝ }
+    {
+        Pid(high as u16 % 32 * 256 + low as u16)
     }
 
     // The original's u16::from(Pid).

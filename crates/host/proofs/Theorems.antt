@@ -8,4 +8,4 @@ use Rattle.host.specs.Told.{Told}
 
 -- an answer is told in one way only: any two words, and any two lists of out numbers, that meet an entry's promise are equal
 pub one-told : (a : Answer) (lent : List ℕ) (v w : ℕ) (left left′ : List ℕ) → Told a v lent left → Told a w lent left′ → (v ≡ w) × (left ≡ left′)
-one-told a lent v w left left′ p q = (p .0 ∙ sym (q .0), p .1 ∙ sym (q .1))
+one-told a lent v w left left′ p q = (p .number ∙ sym (q .number), p .numbers ∙ sym (q .numbers))

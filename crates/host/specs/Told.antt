@@ -1,10 +1,9 @@
 -- What an entry tells its host: one word, and the out numbers.
 use mathlib.Core.Path.{_≡_}
-use mathlib.Core.Bool.{Bool, true, false}
-use mathlib.Core.List.{List}
+use mathlib.Core.List.{List, [], _∷_}
 use Prim.Native.Nat.{ℕ, _+_, _*_}
 use lib.Dec.{eqb}
-use lib.ListN.{getD}
+use lib.ListN.{getD, drop}
 use Rattle.bits.specs.Answer.{Answer, pick}
 use Rattle.bits.specs.Numbers.{done}
 
@@ -12,15 +11,16 @@ use Rattle.bits.specs.Numbers.{done}
 abbrev pub word : Answer → ℕ
 word a = pick (eqb (a .number) done) done (a .number + 256 * getD (a .values) 0 0 + 65536 * getD (a .values) 1 0)
 
+-- as many numbers as are lent: the values, and 0 for those that the answer has none for
+abbrev pub filled : List ℕ → List ℕ → List ℕ
+filled [] vs = []
+filled (x ∷ xs) vs = getD vs 0 0 ∷ filled xs (drop 1 vs)
+
 -- the out numbers afterwards: the answer's values where it is accepted, else as they were lent
 abbrev pub outs : Answer → List ℕ → List ℕ
-outs a lent = pick (eqb (a .number) done) (a .values) lent
+outs a lent = pick (eqb (a .number) done) (filled lent (a .values)) lent
 
 -- the answer a is told by the word w and the out numbers, lent and left
-abbrev pub Told : Answer → ℕ → List ℕ → List ℕ → Type 0
-Told a w lent left = (w ≡ word a) × (left ≡ outs a lent)
-
--- a truth value as a number
-abbrev pub truth : Bool → ℕ
-truth true = 1
-truth false = 0
+pub record Told (a : Answer) (w : ℕ) (lent left : List ℕ) : Type 0 where
+  pub number : w ≡ word a
+  pub numbers : left ≡ outs a lent

@@ -1,19 +1,19 @@
+use Rattle.host.proofs.Laws.{told, wrap-told}
 use mathlib.Core.Path.{refl, sym, ap, _∙_}
 use Rattle.timestamp.specs.Stamp.{givenMade}
-use Rattle.host.proofs.Laws.{wrap-told}
 use borrow.Author.Needs.{needs}
 use Rattle.host.proofs.timestamps.cmv_timestamp_likely_wrapped_since.Statement.{statement}
 use Rattle.host.proofs.timestamps.cmv_timestamp_likely_wrapped_since.Tie as tie
 
 returns : tie.Need-returns
-returns c = rw (sym (c .before .before .from-u64 .ensures) ∙ ap givenMade (c .enum-told .given .1)) (refl, refl)
+returns c = rw (sym (c .before .before .from-u64 .ensures) ∙ ap givenMade (c .enum-told .given .1)) (told (refl, refl))
 
 returns-2 : tie.Need-returns-2
 returns-2 c =
     rw (
       sym (c .before .before .before .before .before .before .from-u64 .ensures) ∙ ap givenMade (c .before .before .before .before .a .given .1),
       sym (c .before .before .from-u642 .ensures) ∙ ap givenMade (c .enum-told2 .given .1),
-    ) (refl, refl)
+    ) (told (refl, refl))
 
 returns-3 : tie.Need-returns-3
 returns-3 c =

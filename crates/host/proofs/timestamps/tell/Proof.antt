@@ -1,3 +1,4 @@
+use Rattle.host.proofs.Laws.{told}
 use native.Mathlib.Omega.{arith}
 use mathlib.Core.Path.{refl, ap}
 use mathlib.Core.List.{[], _∷_}
@@ -7,16 +8,16 @@ use Rattle.host.proofs.timestamps.tell.Statement.{statement}
 use Rattle.host.proofs.timestamps.tell.Tie as tie
 
 returns : tie.Need-returns
-returns c = rw (c .before .before .r .given .1) (refl, ap (λ (v : ℕ). v ∷ []) (c .value .ensures))
+returns c = rw (c .before .before .r .given .1) (told (refl, ap (λ (v : ℕ). v ∷ []) (c .value .ensures)))
 
 returns-2 : tie.Need-returns-2
-returns-2 c = rw (c .enum-told .given .1) (refl, refl)
+returns-2 c = rw (c .enum-told .given .1) (told (refl, refl))
 
 returns-3 : tie.Need-returns-3
-returns-3 c = rw (c .before .r2 .given .1) (refl, refl)
+returns-3 c = rw (c .before .r2 .given .1) (told (refl, refl))
 
 returns-4 : tie.Need-returns-4
-returns-4 c = rw (c .before .r3 .given .1) (omega arith, refl)
+returns-4 c = rw (c .before .r3 .given .1) (told (omega arith, refl))
 
 pub tell-spec : {M : Type 1} → statement M
 tell-spec =
