@@ -1,0 +1,171 @@
+//! What was compared, and how it went, for one function.
+
+use crate::answer::{Answer, NUMBERS};
+use crate::lent::Lent;
+use std::fmt;
+
+/// How many differences of a function are printed with their input.
+const SHOWN: u64 = 5;
+
+/// What the library gave for one call.
+pub struct Given<'a> {
+    /// The word that the entry returned.
+    pub word: u32,
+    /// The out numbers before the call and after it: a refusal leaves them as they were.
+    pub held: &'a [u64],
+    pub outs: &'a [u64],
+    /// Whether every byte that was lent for reading, and every byte around it, is as it was.
+    pub unchanged: bool,
+}
+
+impl Given<'_> {
+    fn agrees(&self, expected: &Answer) -> bool {
+        let outs = if expected.number() == 0 { expected.values() } else { self.held };
+        self.word == expected.word() && self.outs == outs && self.unchanged
+    }
+}
+
+/// The parts of the word, then the out numbers: `12 7 0, out numbers as before`.
+impl fmt::Display for Given<'_> {
+    fn fmt(&self, f: &mut fmt::Formatter<'_>) -> fmt::Result {
+        write!(f, "{} {} {}", self.word % 256, self.word / 256 % 256, self.word / 65_536)?;
+        match self.outs == self.held {
+            true => write!(f, ", out numbers as before")?,
+            false => write!(f, ", out numbers {:?}", self.outs)?,
+        }
+        write!(f, "{}", if self.unchanged { "" } else { ", LENT BYTES CHANGED" })
+    }
+}
+
+pub struct Tally {
+    name: &'static str,
+    must: &'static [usize],
+    compared: u64,
+    by_number: [u64; NUMBERS],
+    differ: u64,
+    of_oracle: bool,
+}
+
+impl Tally {
+    /// A tally of the function `name`; each number of `must` has to be among the answers, or too little was compared.
+    pub fn new(name: &'static str, must: &'static [usize]) -> Tally {
+        Tally { name, must, compared: 0, by_number: [0; NUMBERS], differ: 0, of_oracle: false }
+    }
+
+    /// A tally of what is held against the oracle alone: of where it panics, which no entry of the library does.
+    pub fn of_oracle(name: &'static str, must: &'static [usize]) -> Tally {
+        Tally { of_oracle: true, ..Tally::new(name, must) }
+    }
+
+    /// The answers of the library that were compared.
+    pub fn compared(&self) -> u64 {
+        if self.of_oracle {
+            0
+        } else {
+            self.compared
+        }
+    }
+
+    pub fn differ(&self) -> u64 {
+        self.differ
+    }
+
+    /// What out numbers are to hold before the next call: another pattern each time, and none that is a likely answer.
+    pub fn held<const N: usize>(&self) -> [u64; N] {
+        std::array::from_fn(|nth| !(self.compared + nth as u64).wrapping_mul(0x9e37_79b9_7f4a_7c15))
+    }
+
+    /// Calls an entry on numbers, with N out numbers, and counts its answer.
+    pub fn call<const N: usize>(
+        &mut self,
+        expected: &Answer,
+        entry: impl FnOnce(&mut [u64; N]) -> u32,
+        input: impl FnOnce() -> String,
+    ) {
+        let held = self.held();
+        let mut outs = held;
+        let word = entry(&mut outs);
+        self.take(expected, &Given { word, held: &held, outs: &outs, unchanged: true }, input);
+    }
+
+    /// Calls an entry that reads a lent slice, with N out numbers, and counts its answer.
+    pub fn call_lent<const N: usize>(
+        &mut self,
+        expected: &Answer,
+        lent: &mut Lent,
+        entry: impl FnOnce(&mut [u8], &mut [u64; N]) -> u32,
+        input: impl FnOnce() -> String,
+    ) {
+        let held = self.held();
+        let mut outs = held;
+        let word = entry(lent.slice(), &mut outs);
+        self.take(expected, &Given { word, held: &held, outs: &outs, unchanged: lent.unchanged() }, input);
+    }
+
+    /// Counts what a call gave; `input` is written out only where the answers differ.
+    pub fn take(&mut self, expected: &Answer, given: &Given, input: impl FnOnce() -> String) {
+        self.count(expected);
+        if !given.agrees(expected) {
+            self.report(expected, input, || given.to_string());
+        }
+    }
+
+    /// Counts a number that is the oracle's.
+    pub fn take_number(&mut self, expected: &Answer, number: u32, input: impl FnOnce() -> String) {
+        self.count(expected);
+        if number != expected.number() {
+            self.report(expected, input, || number.to_string());
+        }
+    }
+
+    fn count(&mut self, expected: &Answer) {
+        self.compared += 1;
+        self.by_number[expected.number() as usize] += 1;
+    }
+
+    fn report(&mut self, expected: &Answer, input: impl FnOnce() -> String, given: impl FnOnce() -> String) {
+        self.differ += 1;
+        if self.differ <= SHOWN {
+            println!("DIFFERS {} of {}: expected {expected}, given {}", self.name, input(), given());
+        }
+    }
+
+    /// The numbers that had to occur and did not.
+    fn missing(&self) -> impl Iterator<Item = usize> + '_ {
+        self.must.iter().copied().filter(|&number| self.by_number[number] == 0)
+    }
+
+    pub fn passed(&self) -> bool {
+        self.compared > 0 && self.differ == 0 && self.missing().next().is_none()
+    }
+}
+
+/// One line: `timestamp::from_bytes: 3,072 compared, 1,024 accepted, 12: 2,048, 0 differ`.
+impl fmt::Display for Tally {
+    fn fmt(&self, f: &mut fmt::Formatter<'_>) -> fmt::Result {
+        write!(f, "{}: {} compared, {} accepted", self.name, grouped(self.compared), grouped(self.by_number[0]))?;
+        for (number, &count) in self.by_number.iter().enumerate().skip(1).filter(|(_, &count)| count > 0) {
+            write!(f, ", {number}: {}", grouped(count))?;
+        }
+        write!(f, ", {} differ", grouped(self.differ))?;
+        self.missing().try_for_each(|number| write!(f, ", NEVER GAVE {number}"))
+    }
+}
+
+/// A number with a comma between groups of three digits.
+pub fn grouped(n: u64) -> String {
+    let digits = n.to_string();
+    let mut text = String::new();
+    for (at, digit) in digits.chars().enumerate() {
+        if at > 0 && (digits.len() - at) % 3 == 0 {
+            text.push(',');
+        }
+        text.push(digit);
+    }
+    text
+}
+
+/// Bytes as they are printed: lower case hex, no spaces.
+pub fn hex(bytes: &[u8]) -> String {
+    bytes.iter().map(|byte| format!("{byte:02x}")).collect()
+}

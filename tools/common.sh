@@ -1,0 +1,93 @@
+# shellcheck shell=bash
+# Sourced by the scripts of this folder: where things stand, how Rust is built over the library, how x86-64 programs are run.
+
+top=$(cd "$(dirname "${BASH_SOURCE[0]}")/.." && pwd -P)
+target=$top/target
+library=$target/staticlib/libhost.a
+triple=x86_64-unknown-linux-gnu # what the library is compiled for
+
+fail() {
+    echo "$(basename "$0"): $*" >&2
+    exit 1
+}
+
+on_x86() { [ "$(uname -m)" = x86_64 ]; }
+
+# The folder of the Rattle toolchain.
+kit() { dirname "$(dirname "$(rt doc)")"; }
+
+# Whether a file is there and no input is newer.
+up_to_date() { # FILE INPUT..
+    [ -e "$1" ] && [ -z "$(find "${@:2}" -newer "$1" -print -quit)" ]
+}
+
+# A compiler that has a std for the library's target. Debian's comes first: tools/setup brings it.
+find_rustc() {
+    local found
+    for found in /usr/bin/rustc $(type -aP rustc); do
+        if [ -d "$("$found" --print sysroot 2>/dev/null)/lib/rustlib/$triple" ]; then
+            echo "$found"
+            return
+        fi
+    done
+    fail "no rustc has a std for $triple: run tools/setup"
+}
+
+# The library, built from the proved crates where it is not there.
+need_library() {
+    [ -e "$library" ] || (cd "$top" && rt staticlib host) || fail "the library cannot be built"
+}
+
+# The oracle, in target/oracle: with Debian's crates or, where they do not build, with stand-ins for them.
+need_oracle() {
+    local mode log=$target/oracle.log rustc
+    up_to_date "$target/oracle/mode" "$top/rust/oracle" && return
+    rustc=$(find_rustc)
+    mkdir -p "$target"
+    for mode in real stub; do
+        rm -rf "$target/oracle"
+        if RUSTC=$rustc "$top/rust/oracle/build.sh" x86_64 "$mode" "$target/oracle" >"$log" 2>&1; then
+            echo "$mode" >"$target/oracle/mode"
+            return
+        fi
+        cat "$log" >&2
+    done
+    fail "the oracle cannot be built"
+}
+
+say_oracle() {
+    case $(cat "$target/oracle/mode") in
+    real) echo "oracle: mpeg2ts-reader unchanged, with Debian's log, fixedbitset and encoding_rs" ;;
+    stub) echo "oracle: mpeg2ts-reader unchanged, with stand-ins for log, fixedbitset and encoding_rs" ;;
+    esac
+}
+
+# A program of rust/ with the oracle in it, as target/NAME/libNAME.a: all but the library, so that another library costs a link.
+need_rust() { # NAME
+    local name=$1 archive=$target/$1/lib$1.a rustc
+    need_oracle
+    up_to_date "$archive" "$top/rust" "$target/oracle/mode" && return
+    rustc=$(find_rustc)
+    mkdir -p "$target/$name"
+    "$rustc" --target "$triple" --crate-name "$name" --crate-type staticlib --edition 2021 -C opt-level=3 \
+        -L "dependency=$target/oracle" --extern "mpeg2ts_reader=$target/oracle/libmpeg2ts_reader.rlib" \
+        -o "$archive" "$top/rust/$name/main.rs" || fail "rust/$name cannot be built"
+}
+
+# Links such a program with a library.
+link_rust() { # NAME LIBRARY PROGRAM
+    local linker=cc
+    on_x86 || linker=x86_64-linux-gnu-gcc
+    "$linker" -Wl,--gc-sections -o "$3" "$target/$1/lib$1.a" "$2" || fail "rust/$1 cannot be linked with the library"
+}
+
+# Runs an x86-64 program: as it is where that can be, else as rt does, under the toolchain's emulator and C library.
+run_x86() { # PROGRAM WORDS..
+    local tools
+    if on_x86; then
+        "$@"
+        return
+    fi
+    tools=$(kit)/on/$(uname -m)/toolchain
+    "$tools/bin/qemu-x86_64" "$tools/lib/ld-linux-x86-64.so.2" --library-path "$tools/lib" "$@"
+}
