@@ -78,6 +78,12 @@ module _ (xs : List ℕ) where
   unfolding readClock
   clock-done b e h = simp (le-ltb (length xs) 6 (h .0), h .1, h .2, base-of, extension-of)
 
+-- six bytes hold a clock reference
+
+pub clock-long : (xs : List ℕ) (n : ℕ) (vs : List ℕ) → answer n vs ≡ readClock xs → 6 ≤ length xs → n ≡ 0
+unfolding readClock
+clock-long xs n vs e h = ap (λ (a : Answer). a .number) e ∙ simp (le-ltb (length xs) 6 h)
+
 fits-in : (b e : ℕ) → (b < 2 ^ 33) × (e < 2 ^ 9) → clockFits b e ≡ true
 fits-in b e h = simp (lt-ltb b (2 ^ 33) (h .0), lt-ltb e (2 ^ 9) (h .1))
 

@@ -13,7 +13,7 @@ use types.Run.{OneOf}
 use denote.Enum.Declared.{tagOf}
 use Rattle.bits.specs.Answer.{Answer, answer, pick, truth, Within}
 use Rattle.bits.specs.Field.{bit, field, flag}
-use Rattle.bits.proofs.Fields.{in-byte, field-split, byte-field, field-agree}
+use Rattle.bits.proofs.Fields.{flag-clear, flag-set, in-byte, field-split, byte-field}
 use Rattle.control.specs.Control.{counterOf, pidOf}
 use Rattle.packet.specs.declared.PartRead.{PartRead}
 use Rattle.packet.proofs.PartRead.{the-type}
@@ -86,20 +86,20 @@ module _ (xs : List ℕ) where
   -- ---- the adaptation field and the payload
 
   adaptation-set : (0 < getD xs 3 0 / 32 % 2) → adaptationFlag xs ≡ true
-  unfolding adaptationFlag bit
-  adaptation-set h = eq-eqb (bit xs 26) 1 (omega arith)
+  unfolding adaptationFlag
+  adaptation-set h = flag-set xs 26 h
 
   adaptation-clear : getD xs 3 0 / 32 % 2 ≡ 0 → adaptationFlag xs ≡ false
-  unfolding adaptationFlag bit
-  adaptation-clear h = ne-eqb (bit xs 26) 1 (omega arith)
+  unfolding adaptationFlag
+  adaptation-clear h = flag-clear xs 26 h
 
   payload-set : (0 < getD xs 3 0 / 16 % 2) → payloadFlag xs ≡ true
-  unfolding payloadFlag bit
-  payload-set h = eq-eqb (bit xs 27) 1 (omega arith)
+  unfolding payloadFlag
+  payload-set h = flag-set xs 27 h
 
   payload-clear : getD xs 3 0 / 16 % 2 ≡ 0 → payloadFlag xs ≡ false
-  unfolding payloadFlag bit
-  payload-clear h = ne-eqb (bit xs 27) 1 (omega arith)
+  unfolding payloadFlag
+  payload-clear h = flag-clear xs 27 h
 
   length-is : getD xs 4 0 < 256 → adaptationLength xs ≡ getD xs 4 0
   unfolding adaptationLength

@@ -1,11 +1,12 @@
 -- What the definitions of `specs/Stamp.antt` come to on the bytes, in each case. The functions' proofs cite these, and so do callers'.
 -- Assumes nothing.
 use mathlib.Core.Path.{_≡_, refl, sym, ap, _∙_}
+use mathlib.Core.Bool.{Bool, true, false}
 use mathlib.Core.List.{List, [], _∷_}
 use Prim.Native.Nat.{ℕ, _+_, _-_, _*_, _/_, _%_, _^_, _≤_, _<_}
 use native.Mathlib.Omega.{arith}
 use lib.ListN.{length, getD}
-use lib.Dec.{leb, ltb}
+use lib.Dec.{eqb, leb, ltb}
 use borrow.Author.Tests.{lt-ltb, le-ltb, le-leb, lt-leb, eq-eqb, ne-eqb}
 use Rattle.bits.specs.Answer.{Answer, answer, pick}
 use Rattle.bits.specs.Field.{bit, field}
@@ -93,3 +94,18 @@ module _ (a s : ℕ) where
   pub wrapped-gt : s < a → leb a s ≡ likelyWrapped a s
   unfolding likelyWrapped
   wrapped-gt h = simp (lt-leb a s h)
+
+-- five bytes hold a time, or a marker that is not set, so the number of the answer is 0 or 12
+
+marker : (p q r : Bool) (v : ℕ)
+    → pick p (answer 12 (7 ∷ [])) (pick q (answer 12 (23 ∷ [])) (pick r (answer 12 (39 ∷ [])) (answer 0 (v ∷ [])))) .number % 12 ≡ 0
+marker true q r v = refl
+marker false true r v = refl
+marker false false true v = refl
+marker false false false v = refl
+
+pub stamp-long : (xs : List ℕ) (n : ℕ) (vs : List ℕ) → answer n vs ≡ readStamp xs → 5 ≤ length xs → n % 12 ≡ 0
+unfolding readStamp
+stamp-long xs n vs e h =
+    ap (λ (a : Answer). a .number % 12) e
+    ∙ rw (le-ltb (length xs) 5 h) (marker (eqb (bit xs 7) 0) (eqb (bit xs 23) 0) (eqb (bit xs 39) 0) (stampValue xs))
