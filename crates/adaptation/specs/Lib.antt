@@ -1,0 +1,2 @@
+pub mod Adaptation
+pub mod Extension
