@@ -1,0 +1,3 @@
+pub mod Contents
+pub mod Given
+pub mod Trick

@@ -1,0 +1,643 @@
+// What follows the head of a PES packet that carries parsed contents (`PesParsedContents` of the original's pes.rs), read off a
+// slice that begins after the head's six bytes. Every reader refuses contents that `from_bytes` refuses, and by the same number.
+ghost use mathlib.Core.Path.{_≡_};
+ghost use Prim.Native.Nat.{_+_, _≤_};
+ghost use lib.ListN.{length, drop};
+ghost use Rattle.bits.specs.Answer.{partOf};
+ghost use Rattle.bits.specs.Field.{field};
+ghost use Rattle.timestamp.specs.Stamp.{readStamp};
+ghost use Rattle.contents.specs.Contents.{readContents, readFixed, readPtsDts, readEscr, readEsRate, readCopyInfo, readCrc, readExtension, readPayload};
+ghost use Rattle.contents.specs.Contents.{escrAnswer, escrAt, rateAt, trickAt, copyInfoAt, crcAt, fieldsEnd, payloadAt, makeRate, rateBytes};
+ghost use Rattle.contents.specs.Trick.{readTrick, readRawTrick, trickByte, truncationBits};
+ghost use Rattle.contents.specs.Given.{givenContents, givenByte, givenAlignment, givenCopyright, givenOriginal, givenStamp, givenPtsDts, givenEscr};
+ghost use Rattle.contents.specs.Given.{givenRateMade, givenRateNumber, givenEsRate, truncation, trickValues, givenTrick, givenField, givenCopyInfo, givenCrc, givenPart};
+use bits::part;
+use bits::wide;
+use control::ClockMade;
+use control::ClockRef;
+use timestamp::Timestamp;
+use timestamp::TimestampRead;
+
+// Why contents are refused.
+pub enum Refusal {
+    ShortContents,
+    BadCheckBits,
+    HeaderPastBuffer,
+    FieldsPastHeader,
+}
+
+pub enum ContentsRead {
+    Done,
+    Refused(Refusal),
+}
+
+const FIXED_HEADER_SIZE: usize = 3;
+
+// Whether the slice begins with contents whose flagged fields fit their header data, and whose header data fits the slice.
+pub fn from_bytes(buf: &[u8]) -> ContentsRead
+    ensures { λ r. ⌜ givenContents r ≡ readContents (now (buf .entry)) ⌝ }
+{
+    if buf.len() < FIXED_HEADER_SIZE {
+        return ContentsRead::Refused(Refusal::ShortContents);
+    }
+    if buf[0] / 64 != 2 {
+        return ContentsRead::Refused(Refusal::BadCheckBits);
+    }
+    let end = header_end(buf);
+    if buf.len() < end {
+        return ContentsRead::Refused(Refusal::HeaderPastBuffer);
+    }
+    if end < pes_crc_end(buf) {
+        return ContentsRead::Refused(Refusal::FieldsPastHeader);
+    }
+    ContentsRead::Done
+}
+
+fn header_end(buf: &[u8]) -> usize
+    requires { ⌜ 3 ≤ length (now buf) ⌝ }
+    ensures { λ r. ⌜ (r ≡ payloadAt (now (buf .entry))) × (r ≤ 258) ⌝ }
+{
+    FIXED_HEADER_SIZE + buf[2] as usize
+}
+
+fn pts_dts_end(buf: &[u8]) -> usize
+    requires { ⌜ 3 ≤ length (now buf) ⌝ }
+    ensures { λ r. ⌜ (r ≡ escrAt (now (buf .entry))) × (r ≤ 13) ⌝ }
+{
+    let flags = buf[1] / 64;
+    if flags < 2 {
+        return 3;
+    }
+    if flags == 2 {
+        return 8;
+    }
+    13
+}
+
+fn escr_end(buf: &[u8]) -> usize
+    requires { ⌜ 3 ≤ length (now buf) ⌝ }
+    ensures { λ r. ⌜ (r ≡ rateAt (now (buf .entry))) × (r ≤ 19) ⌝ }
+{
+    let at = pts_dts_end(buf);
+    if buf[1] / 32 % 2 == 0 {
+        return at;
+    }
+    at + 6
+}
+
+fn es_rate_end(buf: &[u8]) -> usize
+    requires { ⌜ 3 ≤ length (now buf) ⌝ }
+    ensures { λ r. ⌜ (r ≡ trickAt (now (buf .entry))) × (r ≤ 22) ⌝ }
+{
+    let at = escr_end(buf);
+    if buf[1] / 16 % 2 == 0 {
+        return at;
+    }
+    at + 3
+}
+
+fn dsm_trick_mode_end(buf: &[u8]) -> usize
+    requires { ⌜ 3 ≤ length (now buf) ⌝ }
+    ensures { λ r. ⌜ (r ≡ copyInfoAt (now (buf .entry))) × (r ≤ 23) ⌝ }
+{
+    let at = es_rate_end(buf);
+    if buf[1] / 8 % 2 == 0 {
+        return at;
+    }
+    at + 1
+}
+
+fn additional_copy_info_end(buf: &[u8]) -> usize
+    requires { ⌜ 3 ≤ length (now buf) ⌝ }
+    ensures { λ r. ⌜ (r ≡ crcAt (now (buf .entry))) × (r ≤ 24) ⌝ }
+{
+    let at = dsm_trick_mode_end(buf);
+    if buf[1] / 4 % 2 == 0 {
+        return at;
+    }
+    at + 1
+}
+
+// Where the flagged fields end.
+fn pes_crc_end(buf: &[u8]) -> usize
+    requires { ⌜ 3 ≤ length (now buf) ⌝ }
+    ensures { λ r. ⌜ (r ≡ fieldsEnd (now (buf .entry))) × (r ≤ 26) ⌝ }
+{
+    let at = additional_copy_info_end(buf);
+    let crc = buf[1] / 2 % 2;
+    if crc == 0 {
+        return at;
+    }
+    at + 2
+}
+
+// A number that is always there.
+pub enum ByteRead {
+    Done(u8),
+    Refused(Refusal),
+}
+
+pub fn pes_priority(buf: &[u8]) -> ByteRead
+    ensures { λ r. ⌜ givenByte r ≡ readFixed 4 1 (now (buf .entry)) ⌝ }
+{
+    match from_bytes(buf) {
+        ContentsRead::Refused(r) => ByteRead::Refused(r),
+        ContentsRead::Done => ByteRead::Done(buf[0] / 8 % 2),
+    }
+}
+
+// Added: the original does not read it.
+pub fn pes_scrambling_control(buf: &[u8]) -> ByteRead
+    ensures { λ r. ⌜ givenByte r ≡ readFixed 2 2 (now (buf .entry)) ⌝ }
+{
+    match from_bytes(buf) {
+        ContentsRead::Refused(r) => ByteRead::Refused(r),
+        ContentsRead::Done => ByteRead::Done(buf[0] / 16 % 4),
+    }
+}
+
+// The eight flags as one byte, as the table has them. Added: the original keeps them to itself.
+pub fn flags(buf: &[u8]) -> ByteRead
+    ensures { λ r. ⌜ givenByte r ≡ readFixed 8 8 (now (buf .entry)) ⌝ }
+{
+    match from_bytes(buf) {
+        ContentsRead::Refused(r) => ByteRead::Refused(r),
+        ContentsRead::Done => ByteRead::Done(buf[1]),
+    }
+}
+
+// Added: the original keeps it to itself.
+pub fn pes_header_data_len(buf: &[u8]) -> ByteRead
+    ensures { λ r. ⌜ givenByte r ≡ readFixed 16 8 (now (buf .entry)) ⌝ }
+{
+    match from_bytes(buf) {
+        ContentsRead::Refused(r) => ByteRead::Refused(r),
+        ContentsRead::Done => ByteRead::Done(buf[2]),
+    }
+}
+
+pub enum DataAlignment {
+    Aligned,
+    NotAligned,
+}
+
+pub enum AlignmentRead {
+    Done(DataAlignment),
+    Refused(Refusal),
+}
+
+pub fn data_alignment_indicator(buf: &[u8]) -> AlignmentRead
+    ensures { λ r. ⌜ givenAlignment r ≡ readFixed 5 1 (now (buf .entry)) ⌝ }
+{
+    match from_bytes(buf) {
+        ContentsRead::Refused(r) => AlignmentRead::Refused(r),
+        ContentsRead::Done => {
+            if buf[0] / 4 % 2 == 0 {
+                return AlignmentRead::Done(DataAlignment::NotAligned);
+            }
+            AlignmentRead::Done(DataAlignment::Aligned)
+        }
+    }
+}
+
+pub enum CopyrightStatus {
+    Protected,
+    Undefined,
+}
+
+pub enum CopyrightRead {
+    Done(CopyrightStatus),
+    Refused(Refusal),
+}
+
+// The original's sense of the bit, which is not the standard's: docs/DIFFERENCES.md.
+pub fn copyright(buf: &[u8]) -> CopyrightRead
+    ensures { λ r. ⌜ givenCopyright r ≡ readFixed 6 1 (now (buf .entry)) ⌝ }
+{
+    match from_bytes(buf) {
+        ContentsRead::Refused(r) => CopyrightRead::Refused(r),
+        ContentsRead::Done => {
+            if buf[0] / 2 % 2 == 0 {
+                return CopyrightRead::Done(CopyrightStatus::Protected);
+            }
+            CopyrightRead::Done(CopyrightStatus::Undefined)
+        }
+    }
+}
+
+pub enum OriginalOrCopy {
+    Original,
+    Copy,
+}
+
+pub enum OriginalRead {
+    Done(OriginalOrCopy),
+    Refused(Refusal),
+}
+
+pub fn original_or_copy(buf: &[u8]) -> OriginalRead
+    ensures { λ r. ⌜ givenOriginal r ≡ readFixed 7 1 (now (buf .entry)) ⌝ }
+{
+    match from_bytes(buf) {
+        ContentsRead::Refused(r) => OriginalRead::Refused(r),
+        ContentsRead::Done => {
+            if buf[0] % 2 == 0 {
+                return OriginalRead::Done(OriginalOrCopy::Copy);
+            }
+            OriginalRead::Done(OriginalOrCopy::Original)
+        }
+    }
+}
+
+// A timestamp of the header, or its own refusal.
+pub enum StampRead {
+    Done(Timestamp),
+    MarkerBitNotSet { bit_number: u8 },
+}
+
+pub enum PtsDts {
+    PtsOnly(StampRead),
+    Both { pts: StampRead, dts: StampRead },
+    FieldNotPresent,
+    PtsDtsFlagsInvalid,
+    Refused(Refusal),
+}
+
+pub fn pts_dts(buf: &[u8]) -> PtsDts
+    ensures { λ r. ⌜ givenPtsDts r ≡ readPtsDts (now (buf .entry)) ⌝ }
+{
+    match from_bytes(buf) {
+        ContentsRead::Refused(r) => PtsDts::Refused(r),
+        ContentsRead::Done => {
+            let flags = buf[1] / 64;
+            if flags == 0 {
+                return PtsDts::FieldNotPresent;
+            }
+            if flags == 1 {
+                return PtsDts::PtsDtsFlagsInvalid;
+            }
+            if flags == 2 {
+                return PtsDts::PtsOnly(stamp_at(buf, 3));
+            }
+            let pts = stamp_at(buf, 3);
+            let dts = stamp_at(buf, 8);
+            PtsDts::Both { pts, dts }
+        }
+    }
+}
+
+// The timestamp at a place; its prefix is not looked at.
+fn stamp_at(buf: &[u8], at: usize) -> StampRead
+    requires { ⌜ at + 5 ≤ length (now buf) ⌝ }
+    ensures { λ r. ⌜ givenStamp r ≡ readStamp (drop at (now (buf .entry))) ⌝ }
+{
+    match Timestamp::from_bytes(&buf[at..]) {
+        TimestampRead::Done(t) => StampRead::Done(t),
+        TimestampRead::MarkerBitNotSet { bit_number } => StampRead::MarkerBitNotSet { bit_number },
+        TimestampRead::WrongLength => StampRead::MarkerBitNotSet { bit_number: 0 },
+        TimestampRead::IncorrectPrefixBits {
+            expected: _,
+            actual: _,
+        } => { StampRead::MarkerBitNotSet { bit_number: 0 } }
+    }
+}
+
+pub enum EscrRead {
+    Done(ClockRef),
+    FieldNotPresent,
+    Refused(Refusal),
+}
+
+// The elementary stream clock reference.
+pub fn escr(buf: &[u8]) -> EscrRead
+    ensures { λ r. ⌜ givenEscr r ≡ readEscr (now (buf .entry)) ⌝ }
+{
+    match from_bytes(buf) {
+        ContentsRead::Refused(r) => EscrRead::Refused(r),
+        ContentsRead::Done => {
+            if buf[1] / 32 % 2 == 0 {
+                return EscrRead::FieldNotPresent;
+            }
+            let at = pts_dts_end(buf);
+            escr_of(&buf[at..])
+        }
+    }
+}
+
+// The clock reference in the first 6 bytes; its markers are not looked at.
+fn escr_of(s: &[u8]) -> EscrRead
+    requires { ⌜ 6 ≤ length (now s) ⌝ }
+    ensures { λ r. ⌜ givenEscr r ≡ escrAnswer (now (s .entry)) ⌝ }
+{
+    let b0 = wide(s[0]);
+    let b1 = wide(s[1]);
+    let b2 = wide(s[2]);
+    let b3 = wide(s[3]);
+    let b4 = wide(s[4]);
+    let b5 = wide(s[5]);
+    let high = b0 / 8 % 8;
+    let middle = b0 % 4 * 8192 + b1 * 32 + b2 / 8;
+    let low = b2 % 4 * 8192 + b3 * 32 + b4 / 8;
+    let extension = (b4 % 4 * 128 + b5 / 2) as u16;
+    match ClockRef::from_parts(high * 1073741824 + middle * 32768 + low, extension) {
+        ClockMade::Done(c) => EscrRead::Done(c),
+        ClockMade::OutOfRange => EscrRead::FieldNotPresent,
+    }
+}
+
+// The rate at which an elementary stream comes, in units of 50 bytes a second.
+pub struct EsRate(u32);
+
+pub enum EsRateMade {
+    Done(EsRate),
+    OutOfRange,
+}
+
+pub enum EsRateNumber {
+    Done(u32),
+    OutOfRange,
+}
+
+pub enum EsRateRead {
+    Done(EsRate),
+    FieldNotPresent,
+    Refused(Refusal),
+}
+
+impl EsRate {
+    pub const RATE_BYTES_PER_SECOND: u32 = 50;
+
+    pub fn new(rate: u32) -> EsRateMade
+        ensures { λ r. ⌜ givenRateMade r ≡ makeRate rate ⌝ }
+    {
+        if rate < 1 << 22 {
+            EsRateMade::Done(EsRate(rate))
+        } else {
+            EsRateMade::OutOfRange
+        }
+    }
+
+    pub fn bytes_per_second(self) -> EsRateNumber
+        ensures { λ r. ⌜ givenRateNumber r ≡ rateBytes (self .0) ⌝ }
+    {
+        if self.0 < 1 << 22 {
+            EsRateNumber::Done(self.0 * EsRate::RATE_BYTES_PER_SECOND)
+        } else {
+            EsRateNumber::OutOfRange
+        }
+    }
+
+    // The original's u32::from(EsRate).
+    pub fn into_u32(self) -> u32
+        ensures { λ r. ⌜ r ≡ self .0 ⌝ }
+    {
+        self.0
+    }
+}
+
+pub fn es_rate(buf: &[u8]) -> EsRateRead
+    ensures { λ r. ⌜ givenEsRate r ≡ readEsRate (now (buf .entry)) ⌝ }
+{
+    match from_bytes(buf) {
+        ContentsRead::Refused(r) => EsRateRead::Refused(r),
+        ContentsRead::Done => {
+            if buf[1] / 16 % 2 == 0 {
+                return EsRateRead::FieldNotPresent;
+            }
+            let at = escr_end(buf);
+            let b0 = wide(buf[at]);
+            let b1 = wide(buf[at + 1]);
+            let b2 = wide(buf[at + 2]);
+            let rate = (b0 % 128 * 32768 + b1 * 128 + b2 / 2) as u32;
+            EsRateRead::Done(EsRate(rate))
+        }
+    }
+}
+
+pub enum FrequencyTruncationCoefficientSelection {
+    DCNonZero,
+    FirstThreeNonZero,
+    FirstSixNonZero,
+    AllMaybeNonZero,
+}
+
+pub enum DsmTrickMode {
+    FastForward {
+        field_id: u8,
+        intra_slice_refresh: bool,
+        frequency_truncation: FrequencyTruncationCoefficientSelection,
+    },
+    SlowMotion {
+        rep_cntrl: u8,
+    },
+    FreezeFrame {
+        field_id: u8,
+        reserved: u8,
+    },
+    FastReverse {
+        field_id: u8,
+        intra_slice_refresh: bool,
+        frequency_truncation: FrequencyTruncationCoefficientSelection,
+    },
+    SlowReverse {
+        rep_cntrl: u8,
+    },
+    Reserved {
+        reserved: u8,
+    },
+}
+
+pub enum TrickRead {
+    Done(DsmTrickMode),
+    FieldNotPresent,
+    Refused(Refusal),
+}
+
+pub fn dsm_trick_mode(buf: &[u8]) -> TrickRead
+    ensures { λ r. ⌜ givenTrick r ≡ readTrick (now (buf .entry)) ⌝ }
+{
+    match from_bytes(buf) {
+        ContentsRead::Refused(r) => TrickRead::Refused(r),
+        ContentsRead::Done => {
+            if buf[1] / 8 % 2 == 0 {
+                return TrickRead::FieldNotPresent;
+            }
+            let at = es_rate_end(buf);
+            TrickRead::Done(trick_of(buf[at]))
+        }
+    }
+}
+
+fn trick_of(byte: u8) -> DsmTrickMode
+    ensures { λ r. ⌜ trickValues r ≡ trickByte byte ⌝ }
+{
+    let control = byte / 32;
+    let field_id = byte / 8 % 4;
+    let intra_slice_refresh = byte / 4 % 2 == 1;
+    match control {
+        0 => DsmTrickMode::FastForward {
+            field_id,
+            intra_slice_refresh,
+            frequency_truncation: truncation_of(byte),
+        },
+        1 => DsmTrickMode::SlowMotion { rep_cntrl: control },
+        2 => DsmTrickMode::FreezeFrame {
+            field_id,
+            reserved: byte % 8,
+        },
+        3 => DsmTrickMode::FastReverse {
+            field_id,
+            intra_slice_refresh,
+            frequency_truncation: truncation_of(byte),
+        },
+        4 => DsmTrickMode::SlowReverse { rep_cntrl: control },
+        _ => DsmTrickMode::Reserved { reserved: control },
+    }
+}
+
+fn truncation_of(byte: u8) -> FrequencyTruncationCoefficientSelection
+    ensures { λ r. ⌜ truncation r ≡ truncationBits byte ⌝ }
+{
+    match byte % 4 {
+        0 => FrequencyTruncationCoefficientSelection::DCNonZero,
+        1 => FrequencyTruncationCoefficientSelection::FirstThreeNonZero,
+        2 => FrequencyTruncationCoefficientSelection::FirstSixNonZero,
+        _ => FrequencyTruncationCoefficientSelection::AllMaybeNonZero,
+    }
+}
+
+// A byte that its flag says is there.
+pub enum FieldRead {
+    Done(u8),
+    FieldNotPresent,
+    Refused(Refusal),
+}
+
+// The trick mode byte as it stands. Added: the original gives the control number where the table has data bits.
+pub fn raw_trick_mode(buf: &[u8]) -> FieldRead
+    ensures { λ r. ⌜ givenField r ≡ readRawTrick (now (buf .entry)) ⌝ }
+{
+    match from_bytes(buf) {
+        ContentsRead::Refused(r) => FieldRead::Refused(r),
+        ContentsRead::Done => {
+            if buf[1] / 8 % 2 == 0 {
+                return FieldRead::FieldNotPresent;
+            }
+            let at = es_rate_end(buf);
+            FieldRead::Done(buf[at])
+        }
+    }
+}
+
+pub enum CopyInfoRead {
+    Done(u8),
+    FieldNotPresent,
+    MarkerBitNotSet { bit_number: u8 },
+    Refused(Refusal),
+}
+
+pub fn additional_copy_info(buf: &[u8]) -> CopyInfoRead
+    ensures { λ r. ⌜ givenCopyInfo r ≡ readCopyInfo (now (buf .entry)) ⌝ }
+{
+    match from_bytes(buf) {
+        ContentsRead::Refused(r) => CopyInfoRead::Refused(r),
+        ContentsRead::Done => {
+            if buf[1] / 4 % 2 == 0 {
+                return CopyInfoRead::FieldNotPresent;
+            }
+            let at = dsm_trick_mode_end(buf);
+            let byte = buf[at];
+            if byte / 128 == 0 {
+                return CopyInfoRead::MarkerBitNotSet { bit_number: 0 };
+            }
+            CopyInfoRead::Done(byte % 128)
+        }
+    }
+}
+
+pub enum CrcRead {
+    Done(u16),
+    FieldNotPresent,
+    Refused(Refusal),
+}
+
+// The checksum of the packet before; nothing is checked by it.
+pub fn previous_pes_packet_crc(buf: &[u8]) -> CrcRead
+    ensures { λ r. ⌜ givenCrc r ≡ readCrc (now (buf .entry)) ⌝ }
+{
+    match from_bytes(buf) {
+        ContentsRead::Refused(r) => CrcRead::Refused(r),
+        ContentsRead::Done => {
+            if buf[1] / 2 % 2 == 0 {
+                return CrcRead::FieldNotPresent;
+            }
+            let at = additional_copy_info_end(buf);
+            let high = wide(buf[at]);
+            let low = wide(buf[at + 1]);
+            CrcRead::Done((high * 256 + low) as u16)
+        }
+    }
+}
+
+// Where a part of the contents lies.
+pub enum PartRead {
+    Done { place: usize, length: usize },
+    FieldNotPresent,
+    Refused(Refusal),
+}
+
+// Where the PES extension lies: from the end of the flagged fields to the end of the header data.
+pub fn pes_extension_at(buf: &[u8]) -> PartRead
+    ensures { λ r. ⌜ givenPart r ≡ readExtension (now (buf .entry)) ⌝ }
+{
+    match from_bytes(buf) {
+        ContentsRead::Refused(r) => PartRead::Refused(r),
+        ContentsRead::Done => {
+            if buf[1] % 2 == 0 {
+                return PartRead::FieldNotPresent;
+            }
+            let place = pes_crc_end(buf);
+            let end = header_end(buf);
+            PartRead::Done {
+                place,
+                length: end - place,
+            }
+        }
+    }
+}
+
+// The PES extension; what it holds is not read.
+pub fn pes_extension(buf: &[u8]) -> &[u8]
+    ensures { λ r. ⌜ now r ≡ partOf (readExtension (now (buf .entry))) (now (buf .entry)) ⌝ }
+{
+    let PartRead::Done { place, length } = pes_extension_at(buf) else {
+        return &buf[0..0];
+    };
+    part(buf, place, length)
+}
+
+// Where the payload lies that came in the same packet as the header.
+pub fn payload_at(buf: &[u8]) -> PartRead
+    ensures { λ r. ⌜ givenPart r ≡ readPayload (now (buf .entry)) ⌝ }
+{
+    match from_bytes(buf) {
+        ContentsRead::Refused(r) => PartRead::Refused(r),
+        ContentsRead::Done => {
+            let place = header_end(buf);
+            PartRead::Done {
+                place,
+                length: buf.len() - place,
+            }
+        }
+    }
+}
+
+// The payload that came in the same packet as the header.
+pub fn payload(buf: &[u8]) -> &[u8]
+    ensures { λ r. ⌜ now r ≡ partOf (readPayload (now (buf .entry))) (now (buf .entry)) ⌝ }
+{
+    let PartRead::Done { place, length } = payload_at(buf) else {
+        return &buf[0..0];
+    };
+    part(buf, place, length)
+}
