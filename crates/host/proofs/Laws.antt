@@ -3,11 +3,23 @@
 use mathlib.Core.Path.{_≡_, refl, sym, ap, _∙_}
 use mathlib.Core.Bool.{Bool, true, false}
 use mathlib.Core.List.{List, [], _∷_}
-use Prim.Native.Nat.{ℕ}
+use Prim.Native.Nat.{ℕ, _^_}
+use native.Mathlib.Omega.{arith}
+use lib.Dec.{ltb, eqb}
+use borrow.Author.Tests.{eqb-true}
+use lib.ListN.{length, getD}
 use mir.Val.{boolByte}
-use Rattle.bits.specs.Answer.{Answer, answer, truth}
+use Rattle.bits.specs.Answer.{Answer, answer, pick, andThen, limited, truth}
+use Rattle.bits.proofs.Tests.{limited-values}
 use Rattle.timestamp.specs.Stamp.{makeStamp, likelyWrapped}
 use Rattle.timestamp.proofs.Laws.{made-value}
+use Rattle.control.specs.declared.ClockRef.{ClockRef}
+use Rattle.control.specs.declared.Scheme.{Scheme}
+use Rattle.control.specs.Clock.{clockValues, clockFits, makeClock, clockNumber, sameClock}
+use Rattle.control.specs.Control.{makeCounter, follows, isScrambled, scrambling, schemeOf}
+use Rattle.packet.specs.Packet.{sound, readByteFour}
+use Rattle.contents.specs.Contents.{makeRate, rateBytes}
+use Rattle.host.specs.Clocks.{clock, sameAnswer, followsAnswer, scramblingAnswer}
 use Rattle.host.specs.Stamps.{wrapAnswer}
 use Rattle.host.specs.Told.{Told, word, outs}
 
@@ -18,14 +30,104 @@ told h = record { number = h .0; numbers = h .1 }
 pub told-as : {a b : Answer} {w : ℕ} {lent left : List ℕ} → a ≡ b → Told b w lent left → Told a w lent left
 told-as e t = rw e t
 
--- a cast of a truth value is its number
-pub byte-truth : (b : Bool) → boolByte b ≡ truth b
-byte-truth true = refl
-byte-truth false = refl
+-- the answer that a function ensures is told where that of the case is
+pub told-of : {R : Type 0} {r k : R} {a : Answer} {w : ℕ} {lent left : List ℕ} (given : R → Answer) → r ≡ k → given r ≡ a → Told (given k) w lent left → Told a w lent left
+told-of given f e t = rw (← e, f) t
 
--- two numbers of which timestamps were made
+-- a truth value, of two things that were both made of numbers
+both-told : {p q : Answer} (vs ws : List ℕ) (l : ℕ) (b t : Bool) → answer 0 vs ≡ p → answer 0 ws ≡ q → b ≡ t
+    → Told (andThen p (andThen q (answer 0 (truth t ∷ [])))) 0 (l ∷ []) (boolByte b ∷ [])
+both-told vs ws l b t p q e = rw (← p, ← q) (told (refl, ap (λ (n : ℕ). n ∷ []) (ap truth e)))
+
+-- ---- timestamps
+
 pub wrap-told : (v s x y l : ℕ) (b : Bool) → answer 0 (x ∷ []) ≡ makeStamp v → answer 0 (y ∷ []) ≡ makeStamp s → b ≡ likelyWrapped x y
     → Told (wrapAnswer v s) 0 (l ∷ []) (boolByte b ∷ [])
 wrap-told v s x y l b p q e =
-    let f : b ≡ likelyWrapped v s = rw (made-value v x p, made-value s y q) at e in
-    rw (← p, ← q) (told (refl, ap (λ (n : ℕ). n ∷ []) (byte-truth b ∙ ap truth f)))
+    both-told (x ∷ []) (y ∷ []) l b (likelyWrapped v s) p q (rw (made-value v x p, made-value s y q) at e)
+
+-- ---- numbers that are tested against a bound
+
+-- the value that was accepted is the tested one
+accepted : (t : Bool) (x v : ℕ) → answer 0 (x ∷ []) ≡ limited t (v ∷ []) → x ≡ v
+accepted t x v p = ap (λ (vs : List ℕ). getD vs 0 0) (limited-values t (x ∷ []) (v ∷ []) p)
+
+-- a test that refuses one list of values refuses every other
+limited-refused : (t : Bool) (us vs : List ℕ) → answer 14 [] ≡ limited t us → limited t vs ≡ answer 14 []
+limited-refused true us vs e = let z : _≡_ {A = ℕ} 14 0 = ap (λ (a : Answer). a .number) e in absurd (omega arith)
+limited-refused false us vs e = refl
+
+-- ---- clock references, counters and the fourth byte
+
+-- a clock reference that was made has the values that it was made of
+clock-made : (b e : ℕ) (c : ClockRef) → answer 0 (clockValues c) ≡ makeClock b e → c ≡ clock b e
+unfolding makeClock
+clock-made b e c p = ap (λ (vs : List ℕ). clock (getD vs 0 0) (getD vs 1 0)) (limited-values (clockFits b e) (clockValues c) (b ∷ e ∷ []) p)
+
+pub number-refused : (b e : ℕ) → answer 14 [] ≡ makeClock b e → clockNumber b e ≡ answer 14 []
+unfolding makeClock clockNumber
+number-refused b e p = limited-refused (clockFits b e) (b ∷ e ∷ []) _ p
+
+pub number-of : (b e : ℕ) (c : ClockRef) → answer 0 (clockValues c) ≡ makeClock b e → clockNumber (c .base) (c .extension) ≡ clockNumber b e
+number-of b e c p = ap (λ (k : ClockRef). clockNumber (k .base) (k .extension)) (clock-made b e c p)
+
+pub same-told : (b e b′ e′ l : ℕ) (c d : ClockRef) (s : Bool) → answer 0 (clockValues c) ≡ makeClock b e → answer 0 (clockValues d) ≡ makeClock b′ e′ → s ≡ sameClock c d
+    → Told (sameAnswer b e b′ e′) 0 (l ∷ []) (boolByte s ∷ [])
+same-told b e b′ e′ l c d s p q h =
+    both-told (clockValues c) (clockValues d) l s (sameClock (clock b e) (clock b′ e′)) p q (rw (clock-made b e c p, clock-made b′ e′ d q) at h)
+
+counter-made : (v x : ℕ) → answer 0 (x ∷ []) ≡ makeCounter v → x ≡ v
+unfolding makeCounter
+counter-made v x p = accepted (ltb v (2 ^ 4)) x v p
+
+pub follows-told : (a b x y l : ℕ) (f : Bool) → answer 0 (x ∷ []) ≡ makeCounter a → answer 0 (y ∷ []) ≡ makeCounter b → f ≡ follows x y
+    → Told (followsAnswer a b) 0 (l ∷ []) (boolByte f ∷ [])
+follows-told a b x y l f p q h =
+    both-told (x ∷ []) (y ∷ []) l f (follows a b) p q (rw (counter-made a x p, counter-made b y q) at h)
+
+-- the number of a scheme, 0 where there is none
+abbrev schemeNumber : Scheme → ℕ
+schemeNumber Scheme.NotScrambled = 0
+schemeNumber (Scheme.Scrambled n) = n
+
+scheme-is : (b : ℕ) → schemeNumber (schemeOf b) ≡ scrambling b
+unfolding schemeOf
+scheme-is b = go (scrambling b) (eqb (scrambling b) 0) refl
+  where
+    go : (n : ℕ) (t : Bool) → eqb n 0 ≡ t → schemeNumber (pick t Scheme.NotScrambled (Scheme.Scrambled n)) ≡ n
+    go n true e = sym (eqb-true n 0 e)
+    go n false e = refl
+
+pub scrambling-told : (b l m : ℕ) (t : Bool) (s : Scheme) → t ≡ isScrambled b → s ≡ schemeOf b
+    → Told (scramblingAnswer b) 0 (l ∷ m ∷ []) (boolByte t ∷ schemeNumber s ∷ [])
+scrambling-told b l m t s h k = told (refl, rw (h, k, scheme-is b))
+
+-- ---- packets
+
+-- what is read of a fourth byte, from the answer that gives the byte
+abbrev through : (ℕ → Answer) → Answer → Answer
+through f a = pick (eqb (a .number) 0) (f (getD (a .values) 0 0)) a
+
+four-through : (f : ℕ → Answer) (xs : List ℕ) → through f (readByteFour xs) ≡ sound xs (f (getD xs 3 0))
+unfolding sound
+four-through f xs = go (eqb (length xs) 188) (eqb (getD xs 0 0) 0x47)
+  where
+    go : (l s : Bool) → through f (pick l (pick s (answer 0 (getD xs 3 0 ∷ [])) (answer 2 [])) (answer 1 []))
+        ≡ pick l (pick s (f (getD xs 3 0)) (answer 2 [])) (answer 1 [])
+    go true true = refl
+    go true false = refl
+    go false s = refl
+
+pub four-told : {R : Type 0} {r k : R} {w : ℕ} {lent left : List ℕ} (xs : List ℕ) (f : ℕ → Answer) (given : R → Answer) → r ≡ k → given r ≡ readByteFour xs
+    → Told (through f (given k)) w lent left → Told (sound xs (f (getD xs 3 0))) w lent left
+four-told xs f given e p t = told-of (λ k. through f (given k)) e (ap (through f) p ∙ four-through f xs) t
+
+-- ---- ES rates
+
+pub rate-refused : (n : ℕ) → answer 14 [] ≡ makeRate n → rateBytes n ≡ answer 14 []
+unfolding makeRate rateBytes
+rate-refused n p = limited-refused (ltb n (2 ^ 22)) (n ∷ []) _ p
+
+pub rate-of : (n x : ℕ) → answer 0 (x ∷ []) ≡ makeRate n → rateBytes x ≡ rateBytes n
+unfolding makeRate
+rate-of n x p = ap rateBytes (accepted (ltb n (2 ^ 22)) x n p)

@@ -1,2 +1,5 @@
 pub mod Told
 pub mod Stamps
+pub mod Clocks
+pub mod Packets
+pub mod Machines

@@ -1,5 +1,5 @@
-use Rattle.host.proofs.Laws.{told, told-as}
-use mathlib.Core.Path.{refl, sym, ap, _∙_}
+use Rattle.host.proofs.Laws.{told, told-of}
+use mathlib.Core.Path.{refl, ap}
 use mathlib.Core.List.{[], _∷_}
 use Prim.Native.Nat.{ℕ}
 use Rattle.timestamp.specs.Stamp.{givenMade}
@@ -9,11 +9,11 @@ use Rattle.host.proofs.timestamps.cmv_timestamp_from_u64.Tie as tie
 
 returns : tie.Need-returns
 returns c =
-    told-as (sym (c .before .before .before .before .from-u64 .ensures) ∙ ap givenMade (c .before .before .t .given .1))
+    told-of givenMade (c .before .before .t .given .1) (c .before .before .before .before .from-u64 .ensures)
     (told (refl, ap (λ (v : ℕ). v ∷ []) (c .value .ensures)))
 
 returns-2 : tie.Need-returns-2
-returns-2 c = told-as (sym (c .before .before .from-u64 .ensures) ∙ ap givenMade (c .enum-told .given .1)) (told (refl, refl))
+returns-2 c = told-of givenMade (c .enum-told .given .1) (c .before .before .from-u64 .ensures) (told (refl, refl))
 
 pub cmv-timestamp-from-u64-spec : {M : Type 1} → statement M
 cmv-timestamp-from-u64-spec =

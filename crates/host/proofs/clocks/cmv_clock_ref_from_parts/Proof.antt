@@ -1,0 +1,17 @@
+use Rattle.host.proofs.Laws.{told, told-of}
+use mathlib.Core.Path.{refl}
+use Rattle.control.specs.Clock.{givenMade}
+use borrow.Author.Needs.{needs}
+use Rattle.host.proofs.clocks.cmv_clock_ref_from_parts.Statement.{statement}
+use Rattle.host.proofs.clocks.cmv_clock_ref_from_parts.Tie as tie
+
+pub cmv-clock-ref-from-parts-spec : {M : Type 1} → statement M
+cmv-clock-ref-from-parts-spec =
+    tie.close
+    (tie.spec
+    (λ c κs. search needs)
+    (λ c. search needs)
+    (λ c κs. search needs)
+    (λ c. search needs)
+    (λ c. told-of givenMade (c .before .before .before .before .c .given .1) (c .before .before .before .before .before .before .from-parts .ensures) (c .tell-clock .ensures))
+    (λ c. told-of givenMade (c .enum-told .given .1) (c .before .before .from-parts .ensures) (told (refl, refl))))

@@ -1,0 +1,19 @@
+use Rattle.host.proofs.Laws.{scrambling-told}
+use mathlib.Core.Path.{sym, _∙_}
+use Rattle.control.specs.declared.Scheme.{Scheme}
+use borrow.Author.Needs.{needs}
+use Rattle.host.proofs.clocks.tell_scrambling.Statement.{statement}
+use Rattle.host.proofs.clocks.tell_scrambling.Tie as tie
+
+pub tell-scrambling-spec : {M : Type 1} → statement M
+tell-scrambling-spec =
+    tie.close
+    (tie.spec
+    (λ c κs. search needs)
+    (λ c. search needs)
+    (λ c κs. search needs)
+    (λ c. search needs)
+    (λ c. search needs)
+    (λ c. search needs)
+    (λ c. scrambling-told _ _ _ _ Scheme.NotScrambled (c .before .before .before .is-scrambled .ensures) (sym (c .enum-told .given .1) ∙ c .before .before .scheme .ensures))
+    (λ c. scrambling-told _ _ _ _ (Scheme.Scrambled _) (c .before .before .before .before .is-scrambled .ensures) (sym (c .before .n .given .1) ∙ c .before .before .before .scheme .ensures)))

@@ -1,0 +1,13 @@
+use Rattle.host.proofs.Laws.{told-as}
+use mathlib.Core.Path.{sym}
+use borrow.Author.Needs.{needs}
+use Rattle.host.proofs.fields.cmv_adaptation_field_opcr.Statement.{statement}
+use Rattle.host.proofs.fields.cmv_adaptation_field_opcr.Tie as tie
+
+pub cmv-adaptation-field-opcr-spec : {M : Type 1} → statement M
+cmv-adaptation-field-opcr-spec =
+    tie.close
+    (tie.spec
+    (λ c κs. search needs)
+    (λ c κs. search needs)
+    (λ c. told-as (sym (c .before .before .before .opcr .ensures)) (c .tell-clock-read .ensures)))

@@ -1,0 +1,13 @@
+use Rattle.host.proofs.Laws.{told-as}
+use mathlib.Core.Path.{sym}
+use borrow.Author.Needs.{needs}
+use Rattle.host.proofs.fields.cmv_adaptation_field_pcr.Statement.{statement}
+use Rattle.host.proofs.fields.cmv_adaptation_field_pcr.Tie as tie
+
+pub cmv-adaptation-field-pcr-spec : {M : Type 1} → statement M
+cmv-adaptation-field-pcr-spec =
+    tie.close
+    (tie.spec
+    (λ c κs. search needs)
+    (λ c κs. search needs)
+    (λ c. told-as (sym (c .before .before .before .pcr .ensures)) (c .tell-clock-read .ensures)))

@@ -1,0 +1,20 @@
+use Rattle.host.proofs.Laws.{told, told-as, told-of}
+use mathlib.Core.Path.{refl, sym, ap, _∙_}
+use Rattle.bits.specs.Answer.{answer}
+use Rattle.pes.specs.Head.{givenStreamId}
+use borrow.Author.Needs.{needs}
+use Rattle.host.proofs.heads.cmv_pes_header_stream_id.Statement.{statement}
+use Rattle.host.proofs.heads.cmv_pes_header_stream_id.Tie as tie
+
+pub cmv-pes-header-stream-id-spec : {M : Type 1} → statement M
+cmv-pes-header-stream-id-spec =
+    tie.close
+    (tie.spec
+    (λ c κs. search needs)
+    (λ c. search needs)
+    (λ c κs. search needs)
+    (λ c. search needs)
+    (λ c. search needs)
+    (λ c. told-as (sym (c .before .before .before .before .stream-id .ensures) ∙ ap givenStreamId (c .before .before .s .given .1) ∙ ap (answer 0) (sym (c .values .ensures))) (told (refl, refl)))
+    (λ c. told-of givenStreamId (c .enum-told .given .1) (c .before .before .stream-id .ensures) (told (refl, refl)))
+    (λ c. told-of givenStreamId (c .enum-told2 .given .1) (c .before .before .stream-id .ensures) (told (refl, refl))))

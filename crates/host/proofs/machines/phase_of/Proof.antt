@@ -1,0 +1,15 @@
+use borrow.Author.Tests.{ne-eqb}
+use Rattle.host.proofs.machines.phase_of.Statement.{statement}
+use Rattle.host.proofs.machines.phase_of.Tie as tie
+
+returns : tie.Need-returns
+returns c = rw (c .match .keys1)
+
+returns-2 : tie.Need-returns-2
+returns-2 c = rw (c .match .keys2)
+
+returns-3 : tie.Need-returns-3
+returns-3 c = simp (ne-eqb _ 0 (c .match .rest .0 .1), ne-eqb _ 1 (c .match .rest .1))
+
+pub phase-of-spec : {M : Type 1} → statement M
+phase-of-spec = tie.close (tie.spec returns returns-2 returns-3)

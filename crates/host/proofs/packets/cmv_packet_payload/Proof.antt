@@ -1,0 +1,13 @@
+use Rattle.host.proofs.Laws.{told-as}
+use mathlib.Core.Path.{sym}
+use borrow.Author.Needs.{needs}
+use Rattle.host.proofs.packets.cmv_packet_payload.Statement.{statement}
+use Rattle.host.proofs.packets.cmv_packet_payload.Tie as tie
+
+pub cmv-packet-payload-spec : {M : Type 1} → statement M
+cmv-packet-payload-spec =
+    tie.close
+    (tie.spec
+    (λ c κs. search needs)
+    (λ c κs. search needs)
+    (λ c. told-as (sym (c .before .before .before .payload-at .ensures)) (c .tell-part .ensures)))

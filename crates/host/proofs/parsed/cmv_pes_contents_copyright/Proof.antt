@@ -1,0 +1,18 @@
+use Rattle.host.proofs.Laws.{told, told-of}
+use mathlib.Core.Path.{refl}
+use Rattle.contents.specs.Given.{givenCopyright}
+use borrow.Author.Needs.{needs}
+use Rattle.host.proofs.parsed.cmv_pes_contents_copyright.Statement.{statement}
+use Rattle.host.proofs.parsed.cmv_pes_contents_copyright.Tie as tie
+
+pub cmv-pes-contents-copyright-spec : {M : Type 1} → statement M
+cmv-pes-contents-copyright-spec =
+    tie.close
+    (tie.spec
+    (λ c κs. search needs)
+    (λ c. search needs)
+    (λ c κs. search needs)
+    (λ c. search needs)
+    (λ c κs. search needs)
+    (λ c. told-of givenCopyright (c .before .before .s .given .1) (c .before .before .before .before .copyright .ensures) (told (refl, simp (c .undefined .ensures))))
+    (λ c. told-of givenCopyright (c .before .before .r .given .1) (c .before .before .before .before .copyright .ensures) (c .refused .ensures _)))

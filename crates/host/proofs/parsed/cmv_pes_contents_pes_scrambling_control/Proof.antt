@@ -1,0 +1,13 @@
+use Rattle.host.proofs.Laws.{told-as}
+use mathlib.Core.Path.{sym}
+use borrow.Author.Needs.{needs}
+use Rattle.host.proofs.parsed.cmv_pes_contents_pes_scrambling_control.Statement.{statement}
+use Rattle.host.proofs.parsed.cmv_pes_contents_pes_scrambling_control.Tie as tie
+
+pub cmv-pes-contents-pes-scrambling-control-spec : {M : Type 1} → statement M
+cmv-pes-contents-pes-scrambling-control-spec =
+    tie.close
+    (tie.spec
+    (λ c κs. search needs)
+    (λ c κs. search needs)
+    (λ c. told-as (sym (c .before .before .pes-scrambling-control .ensures)) (c .tell-byte .ensures)))
