@@ -343,35 +343,35 @@ module _ (b : ℕ) where
   unfolding control
   control-is k h = omega (arith, in-byte (b ∷ []) 0 0 3 5 refl)
 
-  fast-fields : (t : ℕ) → t ≡ truncationBits b → b / 8 % 4 ∷ truth (eqb (b / 4 % 2) 1) ∷ t ∷ [] ≡ field (b ∷ []) 3 2 ∷ bit (b ∷ []) 5 ∷ field (b ∷ []) 6 2 ∷ []
+  fast-fields : (f t : ℕ) → f ≡ b / 8 % 4 → t ≡ truncationBits b → f ∷ truth (eqb (b / 4 % 2) 1) ∷ t ∷ [] ≡ field (b ∷ []) 3 2 ∷ bit (b ∷ []) 5 ∷ field (b ∷ []) 6 2 ∷ []
   unfolding bit
-  fast-fields t e = rw (e, in-byte (b ∷ []) 0 3 2 3 refl, bit-truth (b / 4 % 2) (omega arith))
+  fast-fields f t p e = rw (p, e, in-byte (b ∷ []) 0 3 2 3 refl, bit-truth (b / 4 % 2) (omega arith))
 
-  pub fast-forward : (t : ℕ) → (b < 256) × (b / 32 ≡ 0) → t ≡ truncationBits b → 0 ∷ b / 8 % 4 ∷ truth (eqb (b / 4 % 2) 1) ∷ t ∷ [] ≡ trickByte b
+  pub fast-forward : (f t : ℕ) → (b < 256) × (b / 32 ≡ 0) × (f ≡ b / 8 % 4) → t ≡ truncationBits b → 0 ∷ f ∷ truth (eqb (b / 4 % 2) 1) ∷ t ∷ [] ≡ trickByte b
   unfolding trickOf
-  fast-forward t h e = simp (control-is 0 h) (ap (λ (vs : List ℕ). 0 ∷ vs) (fast-fields t e))
+  fast-forward f t h e = simp (control-is 0 (h .0, h .1)) (ap (λ (vs : List ℕ). 0 ∷ vs) (fast-fields f t (h .2) e))
 
-  pub slow-motion : (b < 256) × (b / 32 ≡ 1) → 1 ∷ b / 32 ∷ [] ≡ trickByte b
+  pub slow-motion : (n : ℕ) → (b < 256) × (b / 32 ≡ 1) × (n ≡ 1) → 1 ∷ n ∷ [] ≡ trickByte b
   unfolding trickOf
-  slow-motion h = simp (control-is 1 h, h .1)
+  slow-motion n h = simp (control-is 1 (h .0, h .1), h .2)
 
-  pub freeze-frame : (b < 256) × (b / 32 ≡ 2) → 2 ∷ b / 8 % 4 ∷ b % 8 ∷ [] ≡ trickByte b
+  pub freeze-frame : (f n : ℕ) → (b < 256) × (b / 32 ≡ 2) × (f ≡ b / 8 % 4) × (n ≡ b % 8) → 2 ∷ f ∷ n ∷ [] ≡ trickByte b
   unfolding trickOf
-  freeze-frame h = simp (control-is 2 h, in-byte (b ∷ []) 0 3 2 3 refl, in-byte (b ∷ []) 0 5 3 0 refl, div-one)
+  freeze-frame f n h = simp (control-is 2 (h .0, h .1), h .2, h .3, in-byte (b ∷ []) 0 3 2 3 refl, in-byte (b ∷ []) 0 5 3 0 refl, div-one)
 
-  pub fast-reverse : (t : ℕ) → (b < 256) × (b / 32 ≡ 3) → t ≡ truncationBits b → 3 ∷ b / 8 % 4 ∷ truth (eqb (b / 4 % 2) 1) ∷ t ∷ [] ≡ trickByte b
+  pub fast-reverse : (f t : ℕ) → (b < 256) × (b / 32 ≡ 3) × (f ≡ b / 8 % 4) → t ≡ truncationBits b → 3 ∷ f ∷ truth (eqb (b / 4 % 2) 1) ∷ t ∷ [] ≡ trickByte b
   unfolding trickOf
-  fast-reverse t h e = simp (control-is 3 h) (ap (λ (vs : List ℕ). 3 ∷ vs) (fast-fields t e))
+  fast-reverse f t h e = simp (control-is 3 (h .0, h .1)) (ap (λ (vs : List ℕ). 3 ∷ vs) (fast-fields f t (h .2) e))
 
-  pub slow-reverse : (b < 256) × (b / 32 ≡ 4) → 4 ∷ b / 32 ∷ [] ≡ trickByte b
+  pub slow-reverse : (n : ℕ) → (b < 256) × (b / 32 ≡ 4) × (n ≡ 4) → 4 ∷ n ∷ [] ≡ trickByte b
   unfolding trickOf
-  slow-reverse h = simp (control-is 4 h, h .1)
+  slow-reverse n h = simp (control-is 4 (h .0, h .1), h .2)
 
-  pub reserved-mode : (b < 256) × (4 < b / 32) → 5 ∷ b / 32 ∷ [] ≡ trickByte b
+  pub reserved-mode : (n : ℕ) → (b < 256) × (4 < b / 32) × (n ≡ b / 32) → 5 ∷ n ∷ [] ≡ trickByte b
   unfolding trickOf
-  reserved-mode h =
-      let k : ℕ = b / 32 in
-      simp (control-is k (h .0, refl), ne-eqb k 0 (omega arith), ne-eqb k 1 (omega arith), ne-eqb k 2 (omega arith), ne-eqb k 3 (omega arith), ne-eqb k 4 (omega arith))
+  reserved-mode n h =
+      let k : control (b ∷ []) ≡ n = control-is n (omega arith) in
+      simp (k, ne-eqb n 0 (omega arith), ne-eqb n 1 (omega arith), ne-eqb n 2 (omega arith), ne-eqb n 3 (omega arith), ne-eqb n 4 (omega arith))
 
 -- ---- both parts lie within the contents
 

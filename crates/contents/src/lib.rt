@@ -68,10 +68,10 @@ fn pts_dts_end(buf: &[u8]) -> usize
     if flags < 2 {
         return 3;
     }
-    if flags == 2 {
-        return 8;
+    if flags == 3 {
+        return 13;
     }
-    13
+    8
 }
 
 fn escr_end(buf: &[u8]) -> usize
