@@ -3,7 +3,7 @@
 use std::fmt;
 
 /// The most values that an answer has.
-const MOST: usize = 8;
+pub const MOST: usize = 8;
 
 /// How many numbers there are: 0 to 20.
 pub const NUMBERS: usize = 21;
@@ -18,6 +18,11 @@ pub struct Answer {
 impl Answer {
     pub fn done(values: &[u64]) -> Answer {
         Answer::new(0, values)
+    }
+
+    /// Done, with one value.
+    pub fn value(value: impl Into<u64>) -> Answer {
+        Answer::done(&[value.into()])
     }
 
     /// A refusal with the numbers named with it, at most two, each below 256.

@@ -2,20 +2,43 @@
 //!
 //!     differential [--count N] [--seed S] [--only MODULE]     compares; N random answers a module
 //!     differential record DIR      writes a fixed sample of the oracle's answers to DIR/stdin and DIR/stdout
+//!     differential stream FILE..   compares on every packet of transport streams
+//!     differential events FILE..   compares the events of transport streams, a machine for each PID, and of damaged copies
+//!     differential fields FILE     lists what the library reads of each packet of a transport stream
 //!
 //! Exit status: 0 where all agreed; 1 where something differs or was not compared at all; 2 for a wrong command line.
 
 // Rust's own start-up reads /proc/self/maps, at which the toolchain's emulator crashes: `main` is C's.
 #![no_main]
 
+mod adaptation;
 mod answer;
+mod consumer;
+mod contents;
+mod control;
+mod event;
+mod fields;
+mod function;
+mod head;
 mod host;
+mod host_machine;
+mod kept;
 mod lent;
+mod machine;
+mod machine_stream;
 mod module;
+mod packet;
+mod panics;
+mod pids;
+mod reading;
 mod record;
 mod rng;
+mod rules;
+mod slice;
+mod stream;
 mod tally;
 mod timestamp;
+mod values;
 
 use module::{Module, Plan};
 use record::Sample;
@@ -24,23 +47,33 @@ use std::time::Instant;
 use tally::{grouped, Tally};
 
 /// The modules, in the order of their codes.
-const MODULES: [Module; 1] = [timestamp::MODULE];
+const MODULES: [Module; 7] = [
+    timestamp::MODULE,
+    control::MODULE,
+    packet::MODULE,
+    adaptation::MODULE,
+    head::MODULE,
+    contents::MODULE,
+    machine::MODULE,
+];
 
-const COUNT: u64 = 15_000_000;
 const SEED: u64 = 1;
-const USAGE: &str = "usage: differential [--count N] [--seed S] [--only MODULE] | differential record DIR";
+const USAGE: &str = "usage: differential [--count N] [--seed S] [--only MODULE] | differential record DIR \
+    | differential stream FILE.. | differential events FILE.. | differential fields FILE";
 
-enum Command {
-    Compare { plan: Plan, only: Option<String> },
-    Record { dir: String },
+/// What is compared: with `count` random answers a module, or as many as the module has set.
+struct Options {
+    count: Option<u64>,
+    seed: u64,
+    only: Option<&'static str>,
 }
 
 #[no_mangle]
 pub extern "C" fn main(_argc: i32, _argv: *const *const u8) -> i32 {
     let words: Vec<String> = std::env::args().skip(1).collect();
-    match command(&words) {
-        Some(Command::Compare { plan, only }) => status(compare(&plan, only.as_deref())),
-        Some(Command::Record { dir }) => status(record(&dir)),
+    match run(&words) {
+        Some(true) => 0,
+        Some(false) => 1,
         None => {
             eprintln!("{USAGE}");
             2
@@ -48,53 +81,52 @@ pub extern "C" fn main(_argc: i32, _argv: *const *const u8) -> i32 {
     }
 }
 
-fn status(passed: bool) -> i32 {
-    if passed {
-        0
-    } else {
-        1
-    }
-}
-
-fn command(words: &[String]) -> Option<Command> {
+/// Whether all went well, or nothing where the words are no command.
+fn run(words: &[String]) -> Option<bool> {
     match words {
-        [word, dir] if word == "record" => Some(Command::Record { dir: dir.clone() }),
-        words => options(words),
+        [word, dir] if word == "record" => Some(record(dir)),
+        [word, files @ ..] if word == "stream" && !files.is_empty() => Some(stream::compare(files)),
+        [word, files @ ..] if word == "events" && !files.is_empty() => Some(machine_stream::compare_files(files)),
+        [word, file] if word == "fields" => Some(fields::list(file)),
+        words => Some(compare(&options(words)?)),
     }
 }
 
-fn options(words: &[String]) -> Option<Command> {
-    let (mut plan, mut only) = (Plan { count: COUNT, seed: SEED }, None);
+fn options(words: &[String]) -> Option<Options> {
+    let mut options = Options { count: None, seed: SEED, only: None };
     for pair in words.chunks(2) {
         let [option, value] = pair else { return None };
         match option.as_str() {
-            "--count" => plan.count = value.parse().ok()?,
-            "--seed" => plan.seed = value.parse().ok()?,
-            "--only" => only = Some(MODULES.iter().find(|module| module.name == value)?.name.to_string()),
+            "--count" => options.count = Some(value.parse().ok()?),
+            "--seed" => options.seed = value.parse().ok()?,
+            "--only" => options.only = Some(MODULES.iter().find(|module| module.name == value)?.name),
             _ => return None,
         }
     }
-    Some(Command::Compare { plan, only })
+    Some(options)
 }
 
-fn compare(plan: &Plan, only: Option<&str>) -> bool {
-    println!("differential: seed {}, {} random answers a module", plan.seed, grouped(plan.count));
+fn compare(options: &Options) -> bool {
+    println!("differential: seed {}", options.seed);
     let began = Instant::now();
-    let chosen = MODULES.iter().filter(|module| only.map_or(true, |name| name == module.name));
-    let tallies: Vec<Vec<Tally>> = chosen.map(|module| compare_module(module, plan)).collect();
+    let chosen = MODULES.iter().filter(|module| options.only.map_or(true, |name| name == module.name));
+    let tallies: Vec<Vec<Tally>> = chosen.map(|module| compare_module(module, options)).collect();
     total("differential", began, tallies.iter().flatten());
     tallies.iter().all(|module| !module.is_empty() && module.iter().all(Tally::passed))
 }
 
 /// Compares one module, and prints a line for each function and one for all.
-fn compare_module(module: &Module, plan: &Plan) -> Vec<Tally> {
+fn compare_module(module: &Module, options: &Options) -> Vec<Tally> {
     let began = Instant::now();
-    let tallies = (module.compare)(plan);
+    let plan = Plan { count: options.count.unwrap_or(module.count), seed: options.seed };
+    println!("{}: {} random answers, beside what is always compared", module.name, grouped(plan.count));
+    let tallies = (module.compare)(&plan);
     tallies.iter().for_each(|tally| println!("{tally}"));
     total(module.name, began, tallies.iter());
     tallies
 }
 
+/// Prints what was compared in all, and how long it took.
 fn total<'a>(name: &str, began: Instant, tallies: impl Iterator<Item = &'a Tally>) {
     let (compared, differ) = tallies.fold((0, 0), |(c, d), tally| (c + tally.compared(), d + tally.differ()));
     let seconds = began.elapsed().as_secs_f64();

@@ -6,6 +6,8 @@ use crate::tally::Tally;
 
 pub struct Module {
     pub name: &'static str,
+    /// How many random answers it compares where nothing else is asked for.
+    pub count: u64,
     /// Compares the library with the oracle: a tally for each function.
     pub compare: fn(&Plan) -> Vec<Tally>,
     /// Adds the oracle's answers to a fixed sample.

@@ -1,6 +1,7 @@
 //! What was compared, and how it went, for one function.
 
-use crate::answer::{Answer, NUMBERS};
+use crate::answer::{Answer, MOST, NUMBERS};
+use crate::host::Reader;
 use crate::lent::Lent;
 use std::fmt;
 
@@ -38,7 +39,7 @@ impl fmt::Display for Given<'_> {
 }
 
 pub struct Tally {
-    name: &'static str,
+    name: String,
     must: &'static [usize],
     compared: u64,
     by_number: [u64; NUMBERS],
@@ -48,12 +49,12 @@ pub struct Tally {
 
 impl Tally {
     /// A tally of the function `name`; each number of `must` has to be among the answers, or too little was compared.
-    pub fn new(name: &'static str, must: &'static [usize]) -> Tally {
-        Tally { name, must, compared: 0, by_number: [0; NUMBERS], differ: 0, of_oracle: false }
+    pub fn new(name: &str, must: &'static [usize]) -> Tally {
+        Tally { name: name.to_string(), must, compared: 0, by_number: [0; NUMBERS], differ: 0, of_oracle: false }
     }
 
     /// A tally of what is held against the oracle alone: of where it panics, which no entry of the library does.
-    pub fn of_oracle(name: &'static str, must: &'static [usize]) -> Tally {
+    pub fn of_oracle(name: &str, must: &'static [usize]) -> Tally {
         Tally { of_oracle: true, ..Tally::new(name, must) }
     }
 
@@ -70,9 +71,9 @@ impl Tally {
         self.differ
     }
 
-    /// What out numbers are to hold before the next call: another pattern each time, and none that is a likely answer.
-    pub fn held<const N: usize>(&self) -> [u64; N] {
-        std::array::from_fn(|nth| !(self.compared + nth as u64).wrapping_mul(0x9e37_79b9_7f4a_7c15))
+    /// What an out number is to hold before the next call: another pattern each time, and none that is a likely answer.
+    fn held(&self, nth: usize) -> u64 {
+        !(self.compared + nth as u64).wrapping_mul(0x9e37_79b9_7f4a_7c15)
     }
 
     /// Calls an entry on numbers, with N out numbers, and counts its answer.
@@ -82,24 +83,19 @@ impl Tally {
         entry: impl FnOnce(&mut [u64; N]) -> u32,
         input: impl FnOnce() -> String,
     ) {
-        let held = self.held();
+        let held: [u64; N] = std::array::from_fn(|nth| self.held(nth));
         let mut outs = held;
         let word = entry(&mut outs);
         self.take(expected, &Given { word, held: &held, outs: &outs, unchanged: true }, input);
     }
 
-    /// Calls an entry that reads a lent slice, with N out numbers, and counts its answer.
-    pub fn call_lent<const N: usize>(
-        &mut self,
-        expected: &Answer,
-        lent: &mut Lent,
-        entry: impl FnOnce(&mut [u8], &mut [u64; N]) -> u32,
-        input: impl FnOnce() -> String,
-    ) {
-        let held = self.held();
-        let mut outs = held;
-        let word = entry(lent.slice(), &mut outs);
-        self.take(expected, &Given { word, held: &held, outs: &outs, unchanged: lent.unchanged() }, input);
+    /// Calls an entry that reads a lent slice, and counts its answer.
+    pub fn call_lent(&mut self, expected: &Answer, lent: &mut Lent, reader: &Reader, input: impl FnOnce() -> String) {
+        let (held, outs) = (&mut [0; MOST][..reader.outs], &mut [0; MOST][..reader.outs]);
+        held.iter_mut().enumerate().for_each(|(nth, number)| *number = self.held(nth));
+        outs.copy_from_slice(held);
+        let word = reader.call(lent.slice(), outs);
+        self.take(expected, &Given { word, held, outs, unchanged: lent.unchanged() }, input);
     }
 
     /// Counts what a call gave; `input` is written out only where the answers differ.
@@ -110,11 +106,17 @@ impl Tally {
         }
     }
 
-    /// Counts a number that is the oracle's.
-    pub fn take_number(&mut self, expected: &Answer, number: u32, input: impl FnOnce() -> String) {
+    /// Counts whether the oracle is as it is expected to be.
+    pub fn take_oracle(
+        &mut self,
+        expected: &Answer,
+        agrees: bool,
+        input: impl FnOnce() -> String,
+        given: impl FnOnce() -> String,
+    ) {
         self.count(expected);
-        if number != expected.number() {
-            self.report(expected, input, || number.to_string());
+        if !agrees {
+            self.report(expected, input, given);
         }
     }
 
@@ -126,7 +128,7 @@ impl Tally {
     fn report(&mut self, expected: &Answer, input: impl FnOnce() -> String, given: impl FnOnce() -> String) {
         self.differ += 1;
         if self.differ <= SHOWN {
-            println!("DIFFERS {} of {}: expected {expected}, given {}", self.name, input(), given());
+            println!("DIFFERS {}: expected {expected}, given {}, of {}", self.name, given(), input());
         }
     }
 

@@ -1,0 +1,326 @@
+//! The event machine and its log: `PesPacketFilter::consume` of the oracle's pes.rs, a packet a step and many packets a run.
+
+use crate::answer::Answer;
+use crate::consumer::{phase_before, start, Oracle, SIZE};
+use crate::event::{decoded, ENTRY};
+use crate::host_machine::{log_entry_at, Advance, State, BEGIN, IGNORE_REST, NONE, STARTED, STEP};
+use crate::kept::Keeps;
+use crate::lent::Lent;
+use crate::machine_stream;
+use crate::module::{Module, Plan};
+use crate::rng::Rng;
+use crate::rules::{self, Happened};
+use crate::tally::{hex, Given, Tally};
+use mpeg2ts_reader::packet::Packet;
+use mpeg2ts_reader::pes::PesHeader;
+use std::ops::Range;
+
+/// Nothing is recorded: the program that replays knows slices and numbers, no states and logs.
+pub const MODULE: Module = Module { name: "machine", count: 2_000_000, compare, record: |_| () };
+
+fn compare(plan: &Plan) -> Vec<Tally> {
+    try_kept();
+    let mut cases = Cases::new(plan.rng(1));
+    cases.every_state();
+    cases.every_refusal();
+    let mut tallies = cases.into_tallies();
+    let mut rng = plan.rng(2);
+    tallies.extend(machine_stream::compare_random(plan.count, &mut plan.rng(3)));
+    tallies.push(compare_entries(&mut rng));
+    tallies
+}
+
+/// A header is read as it stands in memory: tried on a slice that is known.
+fn try_kept() {
+    let bytes = start(0);
+    let header = PesHeader::from_bytes(&bytes[4..]).expect("a head");
+    assert!(std::ptr::eq(header.kept(), &bytes[4..]), "the oracle's header is not the slice that it keeps");
+}
+
+// ---- A call.
+
+/// A call of an entry that advances a state, with the packets and the log that are lent.
+pub struct Call<'a> {
+    pub state: State,
+    pub packets: &'a mut Lent,
+    /// The part of the packets that is lent.
+    pub part: Range<usize>,
+    pub log: &'a mut Lent,
+    /// How many bytes of the log are lent.
+    pub room: usize,
+}
+
+impl Call<'_> {
+    /// Calls the entry and counts its answer, which is to be this number with this state after it. What the log is to hold then,
+    /// `expect` has said.
+    pub fn compare(self, entry: &Advance, tally: &mut Tally, number: u32, after: State) {
+        let Call { state, packets, part, log, room } = self;
+        let mut now = state;
+        let word = entry.call(&mut now, &mut packets.slice()[part.clone()], &mut log.slice()[..room]);
+        let expected = match number {
+            0 => Answer::done(&after.numbers()),
+            number => Answer::refused(number, &[]),
+        };
+        let unchanged = packets.unchanged_near(part.clone()) && log.unchanged();
+        // A run that is refused keeps the packets before: the state that is to be held is the one after them.
+        let given = Given { word, held: &after.numbers(), outs: &now.numbers(), unchanged };
+        tally.take(&expected, &given, || format!("{state:?}, log of {room} bytes, {}", text(&packets.slice()[part])));
+    }
+}
+
+/// The length, and the bytes of the first packet.
+fn text(packets: &[u8]) -> String {
+    format!("{} bytes [{}]", packets.len(), hex(&packets[..packets.len().min(SIZE)]))
+}
+
+/// Whether a stream can bring the oracle to the state, or its numbers stand for none.
+fn can_be_reached(state: State) -> bool {
+    state.last != NONE || !matches!(state.phase, STARTED | IGNORE_REST)
+}
+
+// ---- Single steps.
+
+struct Cases {
+    step: Tally,
+    /// Steps from the states that the oracle cannot be brought to.
+    ruled: Tally,
+    /// The rules that those are held against, in the other states.
+    rules: Tally,
+    rng: Rng,
+    packet: Lent,
+    log: Lent,
+}
+
+/// The longest packet and the longest log of a single step.
+const LONGEST_PACKET: usize = SIZE + 1;
+const LONGEST_LOG: usize = 40;
+
+impl Cases {
+    fn new(rng: Rng) -> Cases {
+        Cases {
+            step: Tally::new("machine::step", &[0, 1, 2, 14, 15, 16]),
+            ruled: Tally::new("machine::step, by the rules: phases without a counter", &[0, 15]),
+            rules: Tally::of_oracle("machine::step, the rules against the Rust", &[0]),
+            rng,
+            packet: Lent::new(LONGEST_PACKET),
+            log: Lent::new(LONGEST_LOG),
+        }
+    }
+
+    /// Steps over a packet, with a log of this length, and gives the state that is to be after it.
+    fn step(&mut self, state: State, packet: &[u8], room: usize) -> State {
+        let guard = self.rng.next() as u8;
+        let filling: [u64; LONGEST_LOG / 8] = std::array::from_fn(|_| self.rng.next());
+        let filling = filling.map(u64::to_be_bytes);
+        self.packet.set(packet, guard);
+        self.log.set(&filling.as_flattened()[..room], !guard);
+        let (number, after) = match self.judged(state, packet, room) {
+            Ok(happened) => (0, self.expect(state, &happened)),
+            Err(number) => (number, state),
+        };
+        let tally = if can_be_reached(state) { &mut self.step } else { &mut self.ruled };
+        let call = Call { state, packets: &mut self.packet, part: 0..packet.len(), log: &mut self.log, room };
+        call.compare(&STEP, tally, number, after);
+        after
+    }
+
+    /// Has the log expect the entries, and gives the state after them.
+    fn expect(&mut self, state: State, happened: &Happened) -> State {
+        let entries = happened.events.iter().zip((state.place..).step_by(ENTRY));
+        entries.for_each(|(event, at)| self.log.expect(at, &event.entry(state.taken)));
+        State {
+            phase: happened.phase,
+            last: happened.last,
+            taken: state.taken + 1,
+            place: state.place + happened.events.room(),
+        }
+    }
+
+    /// What a packet does, or the number of the refusal: in the order of the request.
+    fn judged(&mut self, state: State, packet: &[u8], room: usize) -> Result<Happened, u32> {
+        if packet.len() != SIZE {
+            return Err(1);
+        }
+        if packet[0] != Packet::SYNC_BYTE {
+            return Err(2);
+        }
+        if !state.stands(room) {
+            return Err(14);
+        }
+        if state.taken == u32::MAX {
+            return Err(16);
+        }
+        let happened = self.happened(state, packet);
+        if happened.events.room() > room - state.place {
+            return Err(15);
+        }
+        Ok(happened)
+    }
+
+    /// What a packet does in a state: by the oracle, or by the rules where the oracle cannot be brought there. The phase after it is
+    /// seen from what the oracle does with one more packet, whose counter follows.
+    fn happened(&mut self, state: State, packet: &[u8]) -> Happened {
+        let ruled = rules::happened(state.phase, state.last, packet);
+        let Some(mut oracle) = Oracle::brought_to(state.phase, state.last) else { return ruled };
+        let events = oracle.consume(packet);
+        let last = Packet::new(packet).continuity_counter().count();
+        let phase = phase_before(&oracle.consume(&start(last + 1))).expect("the packet's counter is the last");
+        let told = Happened { events, phase, last };
+        let input = || format!("{state:?}, {}", text(packet));
+        self.rules.take_oracle(&Answer::done(&[]), told == ruled, input, || format!("{told:?}, {ruled:?}"));
+        told
+    }
+
+    /// Every state with every control byte, with and without the start flag and a head, and lengths of the adaptation field around
+    /// each bound; each with one more packet after it.
+    fn every_state(&mut self) {
+        let phases = [BEGIN, STARTED, IGNORE_REST];
+        for (phase, last) in phases.into_iter().flat_map(|phase| (0..16).chain([NONE]).map(move |last| (phase, last))) {
+            for control in 0..=255 {
+                for length in LENGTHS {
+                    for (flags, head) in [(0x00, HEAD), (0x00, NO_HEAD), (0x40, HEAD), (0x40, NO_HEAD)] {
+                        self.state(phase, last, [flags, control, length], head);
+                    }
+                }
+            }
+        }
+    }
+
+    fn state(&mut self, phase: u8, last: u8, [flags, control, length]: [u8; 3], head: [u8; 6]) {
+        let random = self.rng.next();
+        let packet = packet([flags | random as u8 & 0xbf, (random >> 8) as u8, control, length], head);
+        let place = ENTRY * (random >> 16 & 1) as usize;
+        let state = State { phase, last, taken: (random >> 32) as u32 >> 1, place };
+        let after = self.step(state, &packet, LONGEST_LOG);
+        self.step(after, &start(after.last + 1), LONGEST_LOG);
+    }
+
+    /// Every number for a phase with every number for a counter; and of each ground for a refusal several, with the others and
+    /// without: the numbers have an order.
+    fn every_refusal(&mut self) {
+        let [none, one, two] = by_events();
+        for (phase, last) in (0..=255).flat_map(|phase| (0..=255).map(move |last| (phase, last))) {
+            self.step(State { phase, last, taken: 0, place: 0 }, &one, 2 * ENTRY);
+        }
+        for taken in [0, u32::MAX - 1, u32::MAX] {
+            for (phase, last) in [(BEGIN, NONE), (STARTED, 15), (STARTED, NONE), (IGNORE_REST, 16), (3, 0), (255, 255)]
+            {
+                for packet in [none, one, two].iter().flat_map(every_packet_fault) {
+                    self.every_log(State { phase, last, taken, place: 0 }, packet.as_slice());
+                }
+            }
+        }
+    }
+
+    /// Every length of the log, with places in it, past it and between entries.
+    fn every_log(&mut self, state: State, packet: &[u8]) {
+        for room in 0..=LONGEST_LOG {
+            let near = [room.wrapping_sub(16), room.wrapping_sub(8), room.wrapping_sub(1), room, room + 1, room + 8];
+            for place in near.into_iter().chain([0, 1, 4, 7, 8, 16, 1 << 63, usize::MAX - 7, usize::MAX]) {
+                self.step(State { place, ..state }, packet, room);
+            }
+        }
+    }
+
+    fn into_tallies(self) -> Vec<Tally> {
+        vec![self.step, self.ruled, self.rules]
+    }
+}
+
+// ---- Packets.
+
+/// Lengths of an adaptation field: payloads of 183 bytes and 182, of 6 bytes and 5 (a head or not), of 1, of 0, and less than that.
+const LENGTHS: [u8; 10] = [0, 1, 100, 177, 178, 181, 182, 183, 184, 255];
+
+/// What a payload begins with: a head, and one that is nearly a head.
+const HEAD: [u8; 6] = [0x00, 0x00, 0x01, 0xe0, 0x00, 0x00];
+const NO_HEAD: [u8; 6] = [0x00, 0x00, 0x00, 0xe0, 0x00, 0x00];
+
+/// A packet with these four bytes after the sync byte, and with what its payload begins with, as far as it has one.
+fn packet(header: [u8; 4], head: [u8; 6]) -> [u8; SIZE] {
+    let mut packet = [0xff; SIZE];
+    packet[0] = Packet::SYNC_BYTE;
+    packet[1..5].copy_from_slice(&header);
+    set_head(&mut packet, head);
+    packet
+}
+
+/// Writes this where the payload begins, as far as the packet goes.
+pub fn set_head(packet: &mut [u8], head: [u8; 6]) {
+    let at = if packet[3] & 0x20 != 0 { 5 + usize::from(packet[4]) } else { 4 };
+    packet.iter_mut().skip(at).zip(head).for_each(|(byte, of_head)| *byte = of_head);
+}
+
+/// Packets with no event, with one and with two, in a state with no last counter or with 15.
+fn by_events() -> [[u8; SIZE]; 3] {
+    [
+        packet([0x00, 0x00, 0x0f, 0xff], NO_HEAD),
+        packet([0x40, 0x00, 0x10, 0xff], NO_HEAD),
+        packet([0x40, 0x00, 0x10, 0xff], HEAD),
+    ]
+}
+
+/// The packet, without its sync byte, and with lengths that no packet has, with and without the sync byte.
+fn every_packet_fault(packet: &[u8; SIZE]) -> Vec<Vec<u8>> {
+    let lost = [&[0x46], &packet[1..]].concat();
+    let long = [&packet[..], &[0x47]].concat();
+    vec![packet.to_vec(), lost.clone(), vec![], packet[..SIZE - 1].to_vec(), lost[..SIZE - 1].to_vec(), long]
+}
+
+// ---- Entries of the log.
+
+/// What an out number holds before a call: no answer.
+const HELD: u64 = 0xa5a5_a5a5_a5a5_a5a5;
+
+struct Entries {
+    tally: Tally,
+    log: Lent,
+}
+
+impl Entries {
+    /// Reads an entry; what it is to be the driver decodes itself.
+    fn read(&mut self, log: &[u8], at: usize, guard: u8) {
+        self.log.set(log, guard);
+        let expected = match log.get(at..).and_then(<[u8]>::first_chunk).filter(|_| at % ENTRY == 0) {
+            Some(entry) => entry_answer(*entry),
+            None => Answer::refused(14, &[]),
+        };
+        let mut outs = [HELD; 4];
+        let word = log_entry_at(self.log.slice(), at, &mut outs);
+        let given = Given { word, held: &[HELD; 4], outs: &outs, unchanged: self.log.unchanged() };
+        self.tally.take(&expected, &given, || format!("[{}] at {at}", hex(log)));
+    }
+}
+
+pub fn entry_answer(entry: [u8; ENTRY]) -> Answer {
+    decoded(entry).map_or(Answer::refused(14, &[]), |values| Answer::done(&values))
+}
+
+/// What logs repeat: an entry; then bytes that are one from every even place on, and from every odd place on, so that nothing but the
+/// place is wrong there.
+const LOGS: [[u8; ENTRY]; 3] = [
+    [0x2f, 0xff, 0xff, 0xff, 0xf4, 0xb8, 0x00, 0x00],
+    [0x20, 0x00, 0x10, 0x00, 0x30, 0x00, 0x40, 0x00],
+    [0x00, 0x20, 0x00, 0x10, 0x00, 0x30, 0x00, 0x40],
+];
+
+/// Every kind with every value of the bits that have to be clear, each bit of an entry alone, every place in logs of every length,
+/// and random bits.
+fn compare_entries(rng: &mut Rng) -> Tally {
+    let mut entries = Entries { tally: Tally::new("log::entry_at", &[0, 14]), log: Lent::new(LONGEST_LOG) };
+    for (kind, low) in (0..16).flat_map(|kind| (0..4096).map(move |low| (kind, low))) {
+        let bits = rng.next() >> 16 << 12 & u64::MAX >> 4 | kind << 60;
+        [low, 0].into_iter().for_each(|low| entries.read(&(bits | low).to_be_bytes(), 0, rng.next() as u8));
+    }
+    for bit in 0..64 {
+        (0..16_u64).for_each(|kind| entries.read(&(kind << 60 | 1 << bit).to_be_bytes(), 0, 0xff));
+    }
+    for (log, len) in
+        LOGS.into_iter().flat_map(|entry| (0..=LONGEST_LOG).map(move |len| ([entry; LONGEST_LOG / ENTRY], len)))
+    {
+        let far = [1 << 32, 1 << 63, usize::MAX - 15, usize::MAX - 8, usize::MAX - 7, usize::MAX];
+        (0..=LONGEST_LOG + ENTRY).chain(far).for_each(|at| entries.read(&log.as_flattened()[..len], at, 0x00));
+    }
+    (0..100_000).for_each(|_| entries.read(&rng.next().to_be_bytes(), 0, 0xff));
+    entries.tally
+}

@@ -1,0 +1,374 @@
+//! Streams through the event machine, made at random and real: every event, every state and every byte of the log.
+
+use crate::consumer::{Oracle, SIZE};
+use crate::event::{self, ENTRY};
+use crate::host_machine::{log_entry_at, State, IGNORE_REST, RUN, STARTED, STEP};
+use crate::lent::Lent;
+use crate::machine::{entry_answer, set_head, Call};
+use crate::pids::by_pid;
+use crate::rng::Rng;
+use crate::stream::read;
+use crate::tally::{grouped, Tally};
+use crate::total;
+use mpeg2ts_reader::packet::Packet;
+use std::time::Instant;
+
+/// The most packets of a random stream.
+const MOST: usize = 4096;
+
+/// The most bytes of the log of a step: the host is taken to begin it anew when it is full.
+const STEP_LOG: usize = 72;
+
+/// The packets that are always compared: enough for every number.
+const ALWAYS: usize = 100_000;
+
+/// Compares on random streams of so many packets more than are always compared. The first runs out of indices.
+pub fn compare_random(count: u64, rng: &mut Rng) -> Vec<Tally> {
+    let mut walk = Walk::new(MOST, [&[0, 15, 16], &[0, 2, 14, 15, 16], &[0]]);
+    let mut packets = vec![0; MOST * SIZE];
+    rng.fill(&mut packets);
+    make_stream(&mut packets, rng);
+    walk.stream(&packets, State { taken: u32::MAX - MOST as u32 / 2, ..State::FIRST }, rng);
+    let mut left = ALWAYS + count as usize;
+    while left > 0 {
+        let stream = &mut packets[..SIZE * (1 + rng.below(MOST)).min(left)];
+        left -= stream.len() / SIZE;
+        make_stream(stream, rng);
+        let first = State { taken: random_taken(stream.len() / SIZE, rng), ..State::FIRST };
+        walk.stream(stream, first, rng);
+    }
+    walk.into_tallies()
+}
+
+/// Compares on each file, a machine for each PID, and on a damaged copy of it. Prints a line for each file, each copy and each
+/// function, and for all.
+pub fn compare_files(files: &[String]) -> bool {
+    let began = Instant::now();
+    let Some(contents) = files.iter().map(|file| read(file)).collect::<Option<Vec<_>>>() else { return false };
+    // A damaged copy has more packets than its file, but not twice as many.
+    let most = contents.iter().map(Vec::len).max().unwrap_or(0) / SIZE * 2;
+    let mut walk = Walk::new(most, [&[]; 3]);
+    for (file, bytes) in files.iter().zip(&contents) {
+        let mut rng = Rng::new(bytes.len() as u64);
+        let copy = damaged(bytes, &mut rng);
+        walk.file(file, bytes, &mut rng);
+        walk.file(&format!("{file}, a damaged copy"), &copy, &mut rng);
+    }
+    let tallies = walk.into_tallies();
+    tallies.iter().for_each(|tally| println!("{tally}"));
+    total("events", began, tallies.iter());
+    tallies.iter().all(|tally| tally.differ() == 0)
+}
+
+/// Of a hundred packets one is lost, one repeated, one exchanged with the one before it and three have bits changed, in their first
+/// bytes but not in the sync byte.
+fn damaged(bytes: &[u8], rng: &mut Rng) -> Vec<u8> {
+    let mut copy = vec![];
+    for packet in bytes.chunks_exact(SIZE) {
+        let (mut packet, len) = (packet.to_vec(), copy.len());
+        match rng.below(100) {
+            0 => continue,
+            1 => copy.extend_from_within(len.saturating_sub(SIZE)..),
+            2 if len > 0 => packet = copy.splice(len - SIZE.., packet).collect(),
+            3..=5 => (0..=rng.below(3)).for_each(|_| packet[1 + rng.below(23)] ^= 1 << rng.below(8)),
+            _ => (),
+        }
+        copy.extend(packet);
+    }
+    copy
+}
+
+// ---- What the oracle tells of a stream.
+
+struct Told {
+    first: State,
+    /// The state after each packet.
+    after: Vec<State>,
+    /// The log of them all.
+    log: Vec<u8>,
+}
+
+impl Told {
+    /// Of as many packets as there are indices left.
+    fn new(first: State, packets: &[u8]) -> Told {
+        let count = packets.len() / SIZE;
+        let mut told = Told { first, after: Vec::with_capacity(count), log: Vec::with_capacity(2 * ENTRY * count) };
+        let mut oracle = Oracle::new();
+        let mut state = first;
+        for bytes in packets.chunks_exact(SIZE).take((u32::MAX - first.taken) as usize) {
+            let events = oracle.consume(bytes);
+            events.iter().for_each(|event| told.log.extend_from_slice(&event.entry(state.taken)));
+            let packet = Packet::new(bytes);
+            // The oracle keeps its phase to itself. It is what a break and the start flag make it; single steps look for it.
+            if events.iter().any(|event| event.kind == event::ERROR) {
+                state.phase = IGNORE_REST;
+            }
+            if packet.payload_unit_start_indicator() {
+                state.phase = STARTED;
+            }
+            state.last = packet.continuity_counter().count();
+            state.taken += 1;
+            state.place = told.log.len();
+            told.after.push(state);
+        }
+        told
+    }
+
+    fn before(&self, nth: usize) -> State {
+        nth.checked_sub(1).map_or(self.first, |before| self.after[before])
+    }
+
+    /// The entries of some packets.
+    fn entries(&self, from: usize, count: usize) -> &[u8] {
+        &self.log[self.before(from).place..self.before(from + count).place]
+    }
+}
+
+// ---- A stream, by steps and by runs.
+
+struct Walk {
+    step: Tally,
+    run: Tally,
+    entry_at: Tally,
+    packets: Lent,
+    step_log: Lent,
+    log: Lent,
+    filling: Vec<u8>,
+    /// The packets taken, each by a step and again by a run.
+    taken: u64,
+}
+
+/// What a run is over, and with how much of the log.
+struct Piece {
+    from: usize,
+    count: usize,
+    /// The bytes of the packet after them, too few to count.
+    tail: usize,
+    state: State,
+    /// A packet that lost its sync byte.
+    lost: Option<usize>,
+    room: usize,
+}
+
+impl Walk {
+    /// Room for streams of so many packets; the numbers that have to be among the answers.
+    fn new(most: usize, [step, run, entry_at]: [&'static [usize]; 3]) -> Walk {
+        let log = 2 * ENTRY * most + STEP_LOG;
+        let mut filling = vec![0; log];
+        Rng::new(most as u64).fill(&mut filling);
+        Walk {
+            step: Tally::new("machine::step, streams", step),
+            run: Tally::new("machine::run, streams", run),
+            entry_at: Tally::new("log::entry_at, streams", entry_at),
+            packets: Lent::new(most * SIZE),
+            step_log: Lent::new(STEP_LOG),
+            log: Lent::new(log),
+            filling,
+            taken: 0,
+        }
+    }
+
+    fn file(&mut self, name: &str, bytes: &[u8], rng: &mut Rng) {
+        let streams = by_pid(bytes);
+        streams.values().for_each(|stream| self.stream(stream, State::FIRST, rng));
+        println!("{name}: {} packets of {} PIDs", grouped((bytes.len() / SIZE) as u64), streams.len());
+    }
+
+    fn stream(&mut self, packets: &[u8], first: State, rng: &mut Rng) {
+        let told = Told::new(first, packets);
+        self.packets.set(packets, rng.next() as u8);
+        self.steps(&told, rng);
+        self.runs(&told, rng);
+        self.entries(&told);
+        self.taken += told.after.len() as u64;
+    }
+
+    fn count(&self) -> usize {
+        self.packets.len() / SIZE
+    }
+
+    fn steps(&mut self, told: &Told, rng: &mut Rng) {
+        let room = 2 * ENTRY + rng.below(STEP_LOG - 2 * ENTRY);
+        self.step_log.set(&self.filling[..room], rng.next() as u8);
+        let mut place = 0;
+        for nth in 0..self.count() {
+            let before = State { place, ..told.before(nth) };
+            let Some(&after) = told.after.get(nth) else { return self.step(nth, before, 16, before) };
+            let entries = told.entries(nth, 1);
+            if room - place < entries.len() {
+                self.step(nth, before, 15, before);
+                place = 0;
+            }
+            self.step_log.expect(place, entries);
+            let before = State { place, ..before };
+            place += entries.len();
+            self.step(nth, before, 0, State { place, ..after });
+        }
+    }
+
+    fn step(&mut self, nth: usize, state: State, number: u32, after: State) {
+        let (part, room) = (nth * SIZE..(nth + 1) * SIZE, self.step_log.len());
+        let call = Call { state, packets: &mut self.packets, part, log: &mut self.step_log, room };
+        call.compare(&STEP, &mut self.step, number, after);
+    }
+
+    fn runs(&mut self, told: &Told, rng: &mut Rng) {
+        self.log.set(&self.filling[..told.log.len() + rng.below(STEP_LOG)], rng.next() as u8);
+        let mut from = 0;
+        while from < self.count() {
+            let piece = self.piece(told, from, rng);
+            let (number, taken) = piece.outcome(told);
+            self.run(told, &piece, number, taken);
+            from += taken;
+            if number == 16 {
+                return;
+            }
+        }
+    }
+
+    fn run(&mut self, told: &Told, piece: &Piece, number: u32, taken: usize) {
+        let after = if taken == 0 { piece.state } else { told.before(piece.from + taken) };
+        self.log.expect(told.before(piece.from).place, told.entries(piece.from, taken));
+        let end = self.packets.len().min((piece.from + piece.count) * SIZE + piece.tail);
+        let (state, part, room) = (piece.state, piece.from * SIZE..end, piece.room);
+        piece.lost.into_iter().for_each(|lost| self.packets.put(lost * SIZE, 0xb8));
+        let call = Call { state, packets: &mut self.packets, part, log: &mut self.log, room };
+        call.compare(&RUN, &mut self.run, number, after);
+        piece.lost.into_iter().for_each(|lost| self.packets.put(lost * SIZE, Packet::SYNC_BYTE));
+    }
+
+    /// Up to 512 packets, or none. Of sixteen pieces one has a packet without its sync byte, three have a log that may be full before
+    /// the end, one a log that ends before the place, and one begins in a state that is none.
+    fn piece(&self, told: &Told, from: usize, rng: &mut Rng) -> Piece {
+        let count = rng.below((self.count() - from).min(512) + 1);
+        let state = told.before(from);
+        let mut piece = Piece { from, count, tail: rng.below(SIZE), state, lost: None, room: self.log.len() };
+        match rng.below(16) {
+            0 => piece.lost = (count > 0).then(|| from + rng.below(count)),
+            1..=3 => piece.room = piece.room.min(state.place + rng.below(ENTRY * count + 1)),
+            4 => piece.room = rng.below(state.place + 1),
+            5 => piece.state = no_state(state, rng),
+            _ => (),
+        }
+        piece
+    }
+
+    /// Reads every entry back.
+    fn entries(&mut self, told: &Told) {
+        for (nth, entry) in told.log.chunks_exact(ENTRY).enumerate() {
+            let entry = entry_answer(entry.try_into().expect("the bytes of an entry"));
+            let log = self.log.slice();
+            self.entry_at.call(&entry, |outs| log_entry_at(log, nth * ENTRY, outs), || format!("entry {nth}"));
+        }
+    }
+
+    /// Says how many packets were taken.
+    fn into_tallies(self) -> Vec<Tally> {
+        println!("machine: {} packets of streams taken, each by a step and again by a run", grouped(self.taken));
+        vec![self.step, self.run, self.entry_at]
+    }
+}
+
+impl Piece {
+    /// The number of the run, and how many packets are taken before it.
+    fn outcome(&self, told: &Told) -> (u32, usize) {
+        let refusals = (self.from..self.from + self.count).map(|nth| self.refusal(told, nth));
+        let refused = refusals.enumerate().find(|(_, number)| *number != 0);
+        refused.map_or((0, self.count), |(taken, number)| (number, taken))
+    }
+
+    /// The number for a packet, where those before it are taken.
+    fn refusal(&self, told: &Told, nth: usize) -> u32 {
+        if self.lost == Some(nth) {
+            return 2;
+        }
+        if !self.state.stands(self.room) {
+            return 14;
+        }
+        match told.after.get(nth) {
+            None => 16,
+            Some(after) if after.place > self.room => 15,
+            Some(_) => 0,
+        }
+    }
+}
+
+/// A state that is none: by its phase, its counter or its place.
+fn no_state(state: State, rng: &mut Rng) -> State {
+    match rng.below(4) {
+        0 => State { phase: 3 + rng.below(253) as u8, ..state },
+        1 => State { last: 16 + rng.below(239) as u8, ..state },
+        2 => State { place: state.place + 1 + rng.below(7), ..state },
+        _ => State { place: usize::MAX - 7, ..state },
+    }
+}
+
+// ---- Random streams.
+
+/// What a payload begins with at a start: mostly a head.
+const HEADS: [[u8; 3]; 8] = [[0, 0, 1], [0, 0, 1], [0, 0, 1], [0, 0, 1], [0, 0, 1], [0, 0, 0], [0, 1, 1], [1, 0, 1]];
+
+const LENGTHS: [u8; 8] = [0, 1, 177, 178, 182, 183, 184, 255];
+
+/// Gives each packet a header of its own, and most of those with the start flag a head; the other bytes stay.
+fn make_stream(packets: &mut [u8], rng: &mut Rng) {
+    let mut last = 0;
+    for packet in packets.chunks_exact_mut(SIZE) {
+        let (random, choice) = (rng.next().to_le_bytes(), rng.next());
+        let start = if choice & 3 == 0 { 0x40 } else { 0 };
+        let control = random_control(random[2], choice >> 2);
+        let counter = random_counter(last, control, random[3], choice >> 8);
+        last = counter;
+        packet[0] = Packet::SYNC_BYTE;
+        packet[1] = start | random[0] & 0xbf;
+        packet[2] = random[1];
+        packet[3] = control & 0xf0 | counter;
+        packet[4] = random_length(random[4], choice >> 16);
+        let [a, b, c] = HEADS[(choice >> 24 & 7) as usize];
+        if start != 0 {
+            set_head(packet, [a, b, c, random[5], random[6], random[7]]);
+        }
+    }
+}
+
+/// Of sixteen packets, one with any control bits, one with an adaptation field only, one with neither, four with both.
+fn random_control(random: u8, choice: u64) -> u8 {
+    match choice & 15 {
+        0 => random,
+        1 => random & 0xc0 | 0x20,
+        2 => random & 0xc0,
+        3..=6 => 0x30,
+        _ => 0x10,
+    }
+}
+
+/// Mostly the counter that is due. Of 32 packets, one repeats the last, one is one too far and one has any.
+fn random_counter(last: u8, control: u8, random: u8, choice: u64) -> u8 {
+    let due = last + (control >> 4 & 1);
+    let counter = match choice & 31 {
+        0 => random,
+        1 => last,
+        2 => due + 1,
+        _ => due,
+    };
+    counter & 0x0f
+}
+
+/// A quarter around each bound, a quarter of any length, half short enough for a payload.
+fn random_length(random: u8, choice: u64) -> u8 {
+    match choice & 3 {
+        0 => LENGTHS[usize::from(random % 8)],
+        1 => random,
+        _ => random % 183,
+    }
+}
+
+/// Mostly few; of four streams one has the largest index at its end or runs out of them.
+fn random_taken(count: usize, rng: &mut Rng) -> u32 {
+    match rng.below(8) {
+        0 => u32::MAX - count as u32,
+        1 => u32::MAX - rng.below(count + 1) as u32,
+        2 => rng.next() as u32 >> 1,
+        _ => 0,
+    }
+}

@@ -1,0 +1,164 @@
+//! PES headers: every field of the head and of the contents, read once.
+
+use crate::rng::Rng;
+use crate::sum::{ask, Given, Sum};
+use crate::timestamp::set_markers;
+use crate::values;
+use crate::Function;
+use mpeg2ts_reader::pes::{
+    Copyright, DataAlignment, OriginalOrCopy, PesContents, PesError, PesHeader, PesParsedContents, StreamId,
+};
+use std::slice;
+
+extern "C" {
+    fn cmv_pes_header_stream_id(buf: *const u8, len: usize, kind: *mut u64, low: *mut u64) -> u32;
+    fn cmv_pes_header_pes_packet_length(buf: *const u8, len: usize, kind: *mut u64, length: *mut u64) -> u32;
+    fn cmv_pes_header_contents(buf: *const u8, len: usize, kind: *mut u64, place: *mut u64, length: *mut u64) -> u32;
+    fn cmv_pes_contents_from_bytes(buf: *const u8, len: usize) -> u32;
+    fn cmv_pes_contents_pes_priority(buf: *const u8, len: usize, value: *mut u64) -> u32;
+    fn cmv_pes_contents_data_alignment_indicator(buf: *const u8, len: usize, value: *mut u64) -> u32;
+    fn cmv_pes_contents_copyright(buf: *const u8, len: usize, value: *mut u64) -> u32;
+    fn cmv_pes_contents_original_or_copy(buf: *const u8, len: usize, value: *mut u64) -> u32;
+    fn cmv_pes_contents_pts_dts(
+        buf: *const u8,
+        len: usize,
+        kind: *mut u64,
+        pts_number: *mut u64,
+        pts: *mut u64,
+        dts_number: *mut u64,
+        dts: *mut u64,
+    ) -> u32;
+    fn cmv_pes_contents_escr(buf: *const u8, len: usize, base: *mut u64, extension: *mut u64) -> u32;
+    fn cmv_pes_contents_es_rate(buf: *const u8, len: usize, value: *mut u64) -> u32;
+    fn cmv_pes_contents_dsm_trick_mode(
+        buf: *const u8,
+        len: usize,
+        kind: *mut u64,
+        first: *mut u64,
+        second: *mut u64,
+        third: *mut u64,
+    ) -> u32;
+    fn cmv_pes_contents_additional_copy_info(buf: *const u8, len: usize, value: *mut u64) -> u32;
+    fn cmv_pes_contents_previous_pes_packet_crc(buf: *const u8, len: usize, value: *mut u64) -> u32;
+    fn cmv_pes_contents_payload(buf: *const u8, len: usize, place: *mut u64, length: *mut u64) -> u32;
+}
+
+/// Head, contents with every field, and some payload.
+const SIZE: usize = 64;
+const HEAD: usize = 6;
+
+pub const EVERY_FIELD: Function = Function { name: "pes_header::every_field", library, rust, size: SIZE, make };
+
+/// What stands in the sum for contents that are refused: the Rust does not say why.
+const REFUSED: u64 = 5;
+
+/// The stream id that each is asked for: the Rust's has no number.
+const PRIVATE_STREAM1: u64 = 0xbd;
+
+// ---- The library. The pointers and lengths are those of the lent slice or of a part of it that the library gave.
+
+#[inline(never)]
+unsafe extern "C" fn library(buf: *const u8, len: usize, value: *mut u64) -> u32 {
+    let (word, [kind, place, length]) = ask(|[k, p, l]| cmv_pes_header_contents(buf, len, k, p, l));
+    if word != 0 {
+        return word;
+    }
+    let mut sum = Sum::new();
+    let (_, [stream, _]) = ask(|[k, l]| cmv_pes_header_stream_id(buf, len, k, l));
+    sum.add((stream == PRIVATE_STREAM1).into());
+    sum.take(ask(|[k, l]| cmv_pes_header_pes_packet_length(buf, len, k, l)));
+    match kind {
+        0 => sum.add(length),
+        _ => library_contents(&mut sum, buf.add(place as usize), length as usize),
+    }
+    *value = sum.total();
+    0
+}
+
+#[inline(always)]
+unsafe fn library_contents(sum: &mut Sum, buf: *const u8, len: usize) {
+    if cmv_pes_contents_from_bytes(buf, len) != 0 {
+        return sum.add(REFUSED);
+    }
+    sum.take(ask(|[v]| cmv_pes_contents_pes_priority(buf, len, v)));
+    sum.take(ask(|[v]| cmv_pes_contents_data_alignment_indicator(buf, len, v)));
+    sum.take(ask(|[v]| cmv_pes_contents_copyright(buf, len, v)));
+    sum.take(ask(|[v]| cmv_pes_contents_original_or_copy(buf, len, v)));
+    sum.take(ask(|[k, pn, p, dn, d]| cmv_pes_contents_pts_dts(buf, len, k, pn, p, dn, d)));
+    sum.take(ask(|[b, e]| cmv_pes_contents_escr(buf, len, b, e)));
+    sum.take(ask(|[v]| cmv_pes_contents_es_rate(buf, len, v)));
+    sum.take(ask(|[k, a, b, c]| cmv_pes_contents_dsm_trick_mode(buf, len, k, a, b, c)));
+    sum.take(ask(|[v]| cmv_pes_contents_additional_copy_info(buf, len, v)));
+    sum.take(ask(|[v]| cmv_pes_contents_previous_pes_packet_crc(buf, len, v)));
+    let (_, [_, payload]) = ask(|[p, l]| cmv_pes_contents_payload(buf, len, p, l));
+    sum.add(payload);
+}
+
+// ---- The Rust.
+
+#[inline(never)]
+unsafe extern "C" fn rust(buf: *const u8, len: usize, value: *mut u64) -> u32 {
+    let bytes = slice::from_raw_parts(buf, len);
+    let Some(header) = PesHeader::from_bytes(bytes) else { return if len < HEAD { 3 } else { 4 } };
+    let mut sum = Sum::new();
+    sum.add((header.stream_id() == StreamId::PRIVATE_STREAM1).into());
+    sum.take((0, values::length(header.pes_packet_length())));
+    match header.contents() {
+        PesContents::Payload(payload) => sum.add(payload.len() as u64),
+        PesContents::Parsed(None) => sum.add(REFUSED),
+        PesContents::Parsed(Some(contents)) => rust_contents(&mut sum, &contents),
+    }
+    *value = sum.total();
+    0
+}
+
+#[inline(always)]
+fn rust_contents(sum: &mut Sum, contents: &PesParsedContents) {
+    sum.add(contents.pes_priority().into());
+    sum.add((contents.data_alignment_indicator() == DataAlignment::Aligned).into());
+    sum.add((contents.copyright() == Copyright::Undefined).into());
+    sum.add((contents.original_or_copy() == OriginalOrCopy::Original).into());
+    sum.take(given(contents.pts_dts().map(values::times)));
+    sum.take(given(contents.escr().map(values::clock)));
+    sum.take(given(contents.es_rate().map(|rate| [u32::from(rate).into()])));
+    sum.take(given(contents.dsm_trick_mode().map(values::trick)));
+    sum.take(given(contents.additional_copy_info().map(|info| [info.into()])));
+    sum.take(given(contents.previous_pes_packet_crc().map(|crc| [crc.into()])));
+    sum.add(contents.payload().len() as u64);
+}
+
+#[inline(always)]
+fn given<const N: usize>(result: Result<[u64; N], PesError>) -> Given<N> {
+    match result {
+        Ok(values) => (0, values),
+        Err(PesError::FieldNotPresent) => (9, [0; N]),
+        Err(PesError::PtsDtsFlagsInvalid) => (10, [0; N]),
+        Err(PesError::NotEnoughData { .. }) => (11, [0; N]),
+        Err(PesError::MarkerBitNotSet) => (12, [0; N]),
+    }
+}
+
+// ---- Inputs.
+
+/// A video header with every field and every marker; or one with any flags, some of them with a bare id, refused contents or a wrong
+/// start code.
+fn make(bytes: &mut [u8], rng: &mut Rng, accepted: bool) {
+    bytes[..4].copy_from_slice(&[0, 0, 1, 0xe0]);
+    bytes[6] = bytes[6] & 0x3f | 0x80;
+    if accepted {
+        bytes[7] = 0xff;
+        bytes[8] = 25;
+        set_markers(&mut bytes[9..]);
+        set_markers(&mut bytes[14..]);
+        bytes[29] |= 0x80;
+        return;
+    }
+    bytes[8] = 20 + rng.below(10) as u8;
+    match rng.below(8) {
+        0 => bytes[2] = 0,
+        1 => bytes[3] = 0xbc + rng.below(68) as u8,
+        2 => bytes[6] = rng.next() as u8,
+        3 => bytes[8] = rng.next() as u8,
+        _ => set_markers(&mut bytes[9..]),
+    }
+}
