@@ -1,4 +1,9 @@
 // From a query to the host entry that answers it.
+use crate::clocks;
+use crate::fields;
+use crate::heads;
+use crate::packets;
+use crate::parsed;
 use crate::timestamps;
 use bits::wide;
 
@@ -12,6 +17,11 @@ pub enum Told {
 pub fn answer(code: u8, args: &[u8], out: &mut [u64; 8]) -> Told {
     match code {
         0x01..=0x0f => timestamps::answer(code, args, out),
+        0x10..=0x19 => clocks::answer(code, args, out),
+        0x20..=0x2f => packets::answer(code, args, out),
+        0x30..=0x3f => fields::answer(code, args, out),
+        0x40..=0x4f => heads::answer(code, args, out),
+        0x50..=0x6f => parsed::answer(code, args, out),
         _ => Told::Unknown,
     }
 }

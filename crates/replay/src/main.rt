@@ -1,7 +1,12 @@
 // Answers the queries of standard input by the library's host entries. README.md says what a query and an answer look like.
 mod answers;
+mod clocks;
+mod fields;
+mod heads;
 mod input;
 mod output;
+mod packets;
+mod parsed;
 mod timestamps;
 
 use answers::Told;
