@@ -25,8 +25,7 @@ module _ (r : Stepped) (ph : Phase) (la : Last) (p l t a : ℕ) (bs ys ys′ : L
 
   refused : 2 < p → Left (hostRun p l t a bs ys .answer) p l n p l (r .machine .taken) (r .machine .place) × (ys′ ≡ hostRun p l t a bs ys .log)
   refused h =
-      let q = lt-ltb 2 p h in
-      (
+      let q = lt-ltb 2 p h in (
         record {
           number = en ∙ ap (λ (o : Outcome). o .number) answered;
           phase = simp q;
@@ -40,8 +39,7 @@ module _ (r : Stepped) (ph : Phase) (la : Last) (p l t a : ℕ) (bs ys ys′ : L
   ended : (p′ l′ : ℕ) → p ≤ 2 → p′ ≡ phaseNumber (r .machine .phase) → l′ ≡ lastNumber (r .machine .last)
       → Left (hostRun p l t a bs ys .answer) p l n p′ l′ (r .machine .taken) (r .machine .place) × (ys′ ≡ hostRun p l t a bs ys .log)
   ended p′ l′ h ep el =
-      let q = le-ltb 2 p h in
-      (
+      let q = le-ltb 2 p h in (
         record {
           number = en ∙ ap (λ (o : Outcome). o .number) answered;
           phase = simp q (ep ∙ ap (λ (o : Outcome). phaseNumber (o .machine .phase)) answered);
