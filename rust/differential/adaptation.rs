@@ -157,11 +157,16 @@ fn set(flags: u8, mask: u8) -> usize {
     (flags & mask).count_ones() as usize
 }
 
+/// Where the clock references and the countdown end that a field has by its flags.
+fn counted_end(flags: u8) -> usize {
+    1 + 6 * set(flags, 0x18) + set(flags, 0x04)
+}
+
 /// The field with length bytes for its private data and its extension, where they are flagged and stand in the field: often such
 /// that the data ends with the field or near it, or is short.
 fn with_lengths(mut field: Slice, rng: &mut Rng) -> Slice {
     let Some(&flags) = field.first() else { return field };
-    let mut at = 1 + 6 * set(flags, 0x18) + set(flags, 0x04);
+    let mut at = counted_end(flags);
     for flag in [0x02, 0x01] {
         if flags & flag != 0 && at < field.len() {
             field[at] = random_length(field.len() - at - 1, rng);
@@ -205,23 +210,21 @@ fn corner_fields() -> impl Iterator<Item = Slice> {
     let examples = EXAMPLES.into_iter().map(Slice::new);
     let alone = [0x10, 0x08, 0x04].into_iter().flat_map(ends);
     let together = [0x18, 0x0c, 0x14, 0x1c].into_iter().flat_map(ends);
-    let measured = [0x12, 0x0a, 0x06, 0x1e, 0x11, 0x09, 0x05, 0x1d, 0x1f].into_iter().map(|flags| {
-        let bytes: Vec<u8> = (0..30).map(|at| 3 * at + 1).collect();
-        let at = 1 + 6 * set(flags, 0x18) + set(flags, 0x04);
-        Slice::new(&bytes).with(|bytes| {
-            bytes[0] = flags;
-            bytes[at] = 3;
-            bytes[at + 4] = 4;
-        })
-    });
+    let measured = [0x12, 0x0a, 0x06, 0x1e, 0x11, 0x09, 0x05, 0x1d, 0x1f].into_iter().map(measured);
     examples.chain(alone).chain(together).chain(measured)
+}
+
+/// A field with these flags, and with data or an extension of 3 bytes, or both, the second of 4.
+fn measured(flags: u8) -> Slice {
+    let bytes: [u8; 30] = std::array::from_fn(|at| 3 * at as u8 + 1);
+    let at = counted_end(flags);
+    flagged(Slice::new(&bytes), flags).with(|bytes| [bytes[at], bytes[at + 4]] = [3, 4])
 }
 
 /// Fields with these flags that end with the last of their clock references and countdown, one byte before that, and one after.
 fn ends(flags: u8) -> [Slice; 3] {
-    let end = 1 + 6 * set(flags, 0x18) + set(flags, 0x04);
-    let bytes: Vec<u8> = (0..=end as u8).map(|at| 0x9d ^ 0x35 * at).collect();
-    [end - 1, end, end + 1].map(|len| flagged(Slice::new(&bytes).resized(len), flags))
+    let end = counted_end(flags);
+    [end - 1, end, end + 1].map(|len| flagged(Slice::patterned(len), flags))
 }
 
 /// Of any length, most of them short.
@@ -301,10 +304,15 @@ fn compare_extensions(plan: &Plan) -> Vec<Tally> {
     readings.into_tallies()
 }
 
+/// Where the splice of an extension stands.
+fn splice_at(flags: u8) -> usize {
+    1 + 2 * set(flags, 0x80) + 3 * set(flags, 0x40)
+}
+
 /// The extension with these markers in its splice, where that is flagged and stands in the extension.
 fn with_markers(mut extension: Slice, markers: u8) -> Slice {
     let Some(&flags) = extension.first() else { return extension };
-    let at = 1 + 2 * set(flags, 0x80) + 3 * set(flags, 0x40);
+    let at = splice_at(flags);
     if flags & 0x20 != 0 && at + 5 <= extension.len() {
         timestamp::set_markers(&mut extension[at..], markers);
     }
@@ -315,15 +323,14 @@ fn with_markers(mut extension: Slice, markers: u8) -> Slice {
 fn corner_extensions() -> impl Iterator<Item = Slice> {
     let bytes = [0x00, 0xd2, 0x7b, 0xc5, 0x9e, 0x33, 0x61, 0xa8, 0x5f, 0x17, 0xee, 0x42];
     let every = (0..8).map(move |flags| flagged(Slice::new(&bytes), flags << 5 | 0x1f));
-    let whole =
-        |extension: Slice| 1 + 2 * set(extension[0], 0x80) + 3 * set(extension[0], 0x40) + 5 * set(extension[0], 0x20);
-    let ends = every.clone().flat_map(move |extension| {
-        let end = whole(extension);
+    let ends = every.clone().flat_map(|extension| {
+        let end = splice_at(extension[0]) + 5 * set(extension[0], 0x20);
         [end - 1, end, end + 1].map(|len| with_markers(extension.resized(len), 0b111))
     });
-    let markers = every.flat_map(|extension| (0..8).map(move |markers| with_markers(extension, markers)));
+    let spliced = every.filter(|extension| extension[0] & 0x20 != 0);
+    let markers = spliced.flat_map(|extension| (0..8).map(move |markers| with_markers(extension, markers)));
     let windows = [0x00, 0x7f, 0x80, 0xff].map(|high| Slice::new(&[0x80, high, 0xa5]));
-    ends.chain(markers.filter(|extension| extension[0] & 0x20 != 0)).chain(windows)
+    ends.chain(markers).chain(windows)
 }
 
 /// Three of four with all markers.

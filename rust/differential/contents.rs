@@ -294,11 +294,10 @@ fn corner_contents() -> impl Iterator<Item = Slice> {
 
 /// Contents with these flags whose header data ends with the fields, a byte before that, and two bytes after.
 fn ends(flags: u8) -> [Slice; 3] {
-    let bytes: Vec<u8> = (0..40).map(|at| 0x9d ^ 0x35 * at as u8).collect();
     let data = (fields_end(flags) - FIXED) as u8;
     [data, data.saturating_sub(1), data + 2].map(|data| {
         let len = FIXED + usize::from(data) + 4;
-        with_markers(begun(Slice::new(&bytes).resized(len), 0b10, flags, data))
+        with_markers(begun(Slice::patterned(len), 0b10, flags, data))
     })
 }
 

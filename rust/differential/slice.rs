@@ -20,6 +20,11 @@ impl<const MOST: usize> Slice<MOST> {
         Slice { bytes: [byte; MOST], len }
     }
 
+    /// Bytes that are all different, up to 256 of them.
+    pub fn patterned(len: usize) -> Self {
+        Slice { bytes: std::array::from_fn(|at| (at as u8).wrapping_mul(0x35) ^ 0x9d), len }
+    }
+
     pub fn random(rng: &mut Rng, len: usize) -> Self {
         Slice { bytes: [0; MOST], len }.with(|slice| rng.fill(slice))
     }
@@ -30,7 +35,7 @@ impl<const MOST: usize> Slice<MOST> {
         self
     }
 
-    /// The slice with another length: cut, or longer by bytes of the room, which `filled` has filled too.
+    /// The slice with another length: cut, or longer by bytes of the room, which `filled` and `patterned` fill too.
     pub fn resized(self, len: usize) -> Self {
         Slice { len, ..self }
     }

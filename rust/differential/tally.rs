@@ -53,7 +53,7 @@ impl Tally {
         Tally { name: name.to_string(), must, compared: 0, by_number: [0; NUMBERS], differ: 0, of_oracle: false }
     }
 
-    /// A tally of what is held against the oracle alone: of where it panics, which no entry of the library does.
+    /// A tally of what is expected of the oracle itself: where it panics, and which slices it keeps.
     pub fn of_oracle(name: &str, must: &'static [usize]) -> Tally {
         Tally { of_oracle: true, ..Tally::new(name, must) }
     }
