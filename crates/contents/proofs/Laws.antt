@@ -18,8 +18,10 @@ use Rattle.bits.specs.Field.{bit, field, flag}
 use Rattle.bits.proofs.Fields.{in-byte, field-split, byte-field, field-below, field-left, bit-left}
 use Rattle.bits.proofs.Fields.{bit-truth, first-left}
 use Rattle.bits.proofs.Parts.{part-rest}
+use Rattle.bits.proofs.Tests.{limited-value, limited-refused}
 use Rattle.timestamp.specs.declared.TimestampRead.{TimestampRead}
 use Rattle.timestamp.specs.Stamp.{given, readStamp}
+use Rattle.timestamp.proofs.Laws.{stamp-long}
 use Rattle.control.specs.declared.ClockRef.{ClockRef}
 use Rattle.control.specs.declared.ClockMade.{ClockMade}
 use Rattle.control.specs.Clock.{clockValues, givenMade, makeClock}
@@ -32,7 +34,7 @@ use Rattle.contents.specs.declared.EscrRead.{EscrRead}
 use Rattle.contents.specs.declared.PartRead.{PartRead}
 use Rattle.contents.proofs.PartRead.{the-type}
 use Rattle.contents.specs.Given.{refusal, givenContents, givenStamp, givenPtsDts, givenEscr, givenPart}
-use Rattle.contents.specs.Contents.{dataLength, timesSize, escrAt, rateAt, trickAt, copyInfoAt, crcAt, fieldsEnd, payloadAt, guarded, flagged, readContents, readPtsDts, escrBase, escrExtension, escrAnswer, rateOf, readEscr, readEsRate, readCopyInfo, readCrc, readExtension, readPayload}
+use Rattle.contents.specs.Contents.{dataLength, timesSize, escrAt, rateAt, trickAt, copyInfoAt, crcAt, fieldsEnd, payloadAt, guarded, flagged, readContents, readPtsDts, escrBase, escrExtension, escrAnswer, rateOf, readEscr, readEsRate, readCopyInfo, readCrc, readExtension, readPayload, makeRate, rateBytes}
 use Rattle.contents.specs.Trick.{control, trickOf, trickByte, truncationBits, readTrick, readRawTrick}
 
 -- ---- where things stand
@@ -216,20 +218,9 @@ module _ (at : ℕ) (xs : List ℕ) (r s : TimestampRead) (e : r ≡ s) (g : giv
   pub stamp-there : given s ≡ readStamp (drop at xs)
   stamp-there = sym (ap given e) ∙ (g ∙ ap readStamp (part-rest at xs))
 
-  -- five bytes give a timestamp or 12, so the other answers do not arise
-  pub stamp-never : {A : Type 0} → (at + 5 ≤ length xs) × (0 < given s .number) × (given s .number ≡ 12 → ⊥) → A
-  unfolding readStamp
-  stamp-never h =
-      absurd (go _ (eqb (bit ys 7) 0) (eqb (bit ys 23) 0) (eqb (bit ys 39) 0) (rw (le-ltb (length ys) 5 (simp length-drop (omega arith))) at (ap (λ (a : Answer). a .number) stamp-there)))
-    where
-      ys : List ℕ
-      ys = drop at xs
-
-      go : (vs : List ℕ) (p q d : Bool) → given s .number ≡ (pick p (answer 12 (7 ∷ [])) (pick q (answer 12 (23 ∷ [])) (pick d (answer 12 (39 ∷ [])) (answer 0 vs)))) .number → ⊥
-      go vs true q d f = omega arith
-      go vs false true d f = omega arith
-      go vs false false true f = omega arith
-      go vs false false false f = omega arith
+  -- what timestamp's `stamp-long` says of its number
+  pub stamp-number : at + 5 ≤ length xs → given s .number % 12 ≡ 0
+  stamp-number h = stamp-long (drop at xs) (given s .number) (given s .values) stamp-there (simp length-drop (omega arith))
 
 -- ---- the clock reference
 
@@ -398,3 +389,13 @@ pub part-refusal : (r : PartRead) → OneOf (1 ∷ 2 ∷ []) (tagOf the-type r) 
 part-refusal (PartRead.Done p n) k z = ⊎-elim (λ e. omega arith) (λ e. omega arith) k
 part-refusal PartRead.FieldNotPresent k z = omega arith
 part-refusal (PartRead.Refused r) k z = not-done r z
+
+-- ---- ES rates: one that is not made has none, and that of one that is made is that of its number
+
+pub rate-refused : (n : ℕ) → answer 14 [] ≡ makeRate n → rateBytes n ≡ answer 14 []
+unfolding makeRate rateBytes
+rate-refused n p = limited-refused (ltb n (2 ^ 22)) (n ∷ []) _ p
+
+pub rate-kept : (n x : ℕ) → answer 0 (x ∷ []) ≡ makeRate n → rateBytes x ≡ rateBytes n
+unfolding makeRate
+rate-kept n x p = ap rateBytes (limited-value (ltb n (2 ^ 22)) x n p)

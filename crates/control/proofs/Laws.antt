@@ -11,10 +11,10 @@ use borrow.Author.Tests.{lt-ltb, le-ltb, eq-eqb, ne-eqb}
 use Rattle.bits.specs.Answer.{Answer, answer, pick}
 use Rattle.bits.specs.Field.{bit, field}
 use Rattle.bits.proofs.Fields.{field-split, in-byte}
-use Rattle.bits.proofs.Tests.{limited-in, limited-out}
+use Rattle.bits.proofs.Tests.{limited-in, limited-out, limited-values, limited-value, limited-refused}
 use Rattle.control.specs.declared.ClockRef.{ClockRef}
 use Rattle.control.specs.declared.Scheme.{Scheme}
-use Rattle.control.specs.Clock.{clockBase, clockExtension, clockFits, readClock, makeClock, clockNumber, sameClock}
+use Rattle.control.specs.Clock.{clock, clockValues, clockBase, clockExtension, clockFits, readClock, makeClock, clockNumber, sameClock}
 use Rattle.control.specs.Control.{hasAdaptationField, hasPayload, scrambling, isScrambled, schemeOf, follows, makeCounter, counterOf, makePid, pidOf}
 
 -- the fourth byte
@@ -118,6 +118,19 @@ module _ (b e : ℕ) where
   unfolding clockNumber
   number-extension-out h = simp (extension-out b e h)
 
+  -- a clock reference that was made has the values that it was made of
+  pub clock-made : (c : ClockRef) → answer 0 (clockValues c) ≡ makeClock b e → c ≡ clock b e
+  unfolding makeClock
+  clock-made c p = ap (λ (vs : List ℕ). clock (getD vs 0 0) (getD vs 1 0)) (limited-values (clockFits b e) (clockValues c) (b ∷ e ∷ []) p)
+
+  -- one that is not made has no number, and the number of one that is made is that of its values
+  pub number-refused : answer 14 [] ≡ makeClock b e → clockNumber b e ≡ answer 14 []
+  unfolding makeClock clockNumber
+  number-refused p = limited-refused (clockFits b e) (b ∷ e ∷ []) _ p
+
+  pub number-of : (c : ClockRef) → answer 0 (clockValues c) ≡ makeClock b e → clockNumber (c .base) (c .extension) ≡ clockNumber b e
+  number-of c p = ap (λ (k : ClockRef). clockNumber (k .base) (k .extension)) (clock-made c p)
+
 -- counters and PIDs
 pub counter-is : (b : ℕ) → b % 16 ≡ counterOf b
 unfolding counterOf
@@ -134,6 +147,10 @@ counter-in n h = limited-in n (2 ^ 4) (n ∷ []) h
 pub counter-out : (n : ℕ) → 16 ≤ n → answer 14 [] ≡ makeCounter n
 unfolding makeCounter
 counter-out n h = limited-out n (2 ^ 4) (n ∷ []) h
+
+pub counter-made : (v x : ℕ) → answer 0 (x ∷ []) ≡ makeCounter v → x ≡ v
+unfolding makeCounter
+counter-made v x p = limited-value (ltb v (2 ^ 4)) x v p
 
 pub pid-in : (n : ℕ) → n < 8192 → answer 0 (n ∷ []) ≡ makePid n
 unfolding makePid

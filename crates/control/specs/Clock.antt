@@ -13,6 +13,9 @@ use Rattle.control.specs.declared.ClockRead.{ClockRead}
 use Rattle.control.specs.declared.ClockMade.{ClockMade}
 use Rattle.control.specs.declared.ClockNumber.{ClockNumber}
 
+abbrev pub clock : ℕ → ℕ → ClockRef
+clock b e = record { base = b; extension = e }
+
 -- a clock reference's two values
 abbrev pub clockValues : ClockRef → List ℕ
 clockValues c = c .base ∷ c .extension ∷ []

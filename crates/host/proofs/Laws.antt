@@ -3,23 +3,21 @@
 use mathlib.Core.Path.{_≡_, refl, sym, ap, _∙_}
 use mathlib.Core.Bool.{Bool, true, false}
 use mathlib.Core.List.{List, [], _∷_}
-use Prim.Native.Nat.{ℕ, _^_}
-use native.Mathlib.Omega.{arith}
-use lib.Dec.{ltb, eqb}
+use Prim.Native.Nat.{ℕ}
+use lib.Dec.{eqb}
 use borrow.Author.Tests.{eqb-true}
 use lib.ListN.{length, getD}
 use mir.Val.{boolByte}
-use Rattle.bits.specs.Answer.{Answer, answer, pick, andThen, limited, truth}
-use Rattle.bits.proofs.Tests.{limited-values}
+use Rattle.bits.specs.Answer.{Answer, answer, pick, andThen, truth}
 use Rattle.timestamp.specs.Stamp.{makeStamp, likelyWrapped}
 use Rattle.timestamp.proofs.Laws.{made-value}
 use Rattle.control.specs.declared.ClockRef.{ClockRef}
 use Rattle.control.specs.declared.Scheme.{Scheme}
-use Rattle.control.specs.Clock.{clockValues, clockFits, makeClock, clockNumber, sameClock}
+use Rattle.control.specs.Clock.{clock, clockValues, makeClock, sameClock}
+use Rattle.control.proofs.Laws.{clock-made, counter-made}
 use Rattle.control.specs.Control.{makeCounter, follows, isScrambled, scrambling, schemeOf}
 use Rattle.packet.specs.Packet.{sound, readByteFour}
-use Rattle.contents.specs.Contents.{makeRate, rateBytes}
-use Rattle.host.specs.Clocks.{clock, sameAnswer, followsAnswer, scramblingAnswer}
+use Rattle.host.specs.Clocks.{sameAnswer, followsAnswer, scramblingAnswer}
 use Rattle.host.specs.Stamps.{wrapAnswer}
 use Rattle.host.specs.Told.{Told, word, outs}
 
@@ -46,39 +44,12 @@ pub wrap-told : (v s x y l : ℕ) (b : Bool) → answer 0 (x ∷ []) ≡ makeSta
 wrap-told v s x y l b p q e =
     both-told (x ∷ []) (y ∷ []) l b (likelyWrapped v s) p q (rw (made-value v x p, made-value s y q) at e)
 
--- ---- numbers that are tested against a bound
-
--- the value that was accepted is the tested one
-accepted : (t : Bool) (x v : ℕ) → answer 0 (x ∷ []) ≡ limited t (v ∷ []) → x ≡ v
-accepted t x v p = ap (λ (vs : List ℕ). getD vs 0 0) (limited-values t (x ∷ []) (v ∷ []) p)
-
--- a test that refuses one list of values refuses every other
-limited-refused : (t : Bool) (us vs : List ℕ) → answer 14 [] ≡ limited t us → limited t vs ≡ answer 14 []
-limited-refused true us vs e = let z : _≡_ {A = ℕ} 14 0 = ap (λ (a : Answer). a .number) e in absurd (omega arith)
-limited-refused false us vs e = refl
-
 -- ---- clock references, counters and the fourth byte
-
--- a clock reference that was made has the values that it was made of
-clock-made : (b e : ℕ) (c : ClockRef) → answer 0 (clockValues c) ≡ makeClock b e → c ≡ clock b e
-unfolding makeClock
-clock-made b e c p = ap (λ (vs : List ℕ). clock (getD vs 0 0) (getD vs 1 0)) (limited-values (clockFits b e) (clockValues c) (b ∷ e ∷ []) p)
-
-pub number-refused : (b e : ℕ) → answer 14 [] ≡ makeClock b e → clockNumber b e ≡ answer 14 []
-unfolding makeClock clockNumber
-number-refused b e p = limited-refused (clockFits b e) (b ∷ e ∷ []) _ p
-
-pub number-of : (b e : ℕ) (c : ClockRef) → answer 0 (clockValues c) ≡ makeClock b e → clockNumber (c .base) (c .extension) ≡ clockNumber b e
-number-of b e c p = ap (λ (k : ClockRef). clockNumber (k .base) (k .extension)) (clock-made b e c p)
 
 pub same-told : (b e b′ e′ l : ℕ) (c d : ClockRef) (s : Bool) → answer 0 (clockValues c) ≡ makeClock b e → answer 0 (clockValues d) ≡ makeClock b′ e′ → s ≡ sameClock c d
     → Told (sameAnswer b e b′ e′) 0 (l ∷ []) (boolByte s ∷ [])
 same-told b e b′ e′ l c d s p q h =
     both-told (clockValues c) (clockValues d) l s (sameClock (clock b e) (clock b′ e′)) p q (rw (clock-made b e c p, clock-made b′ e′ d q) at h)
-
-counter-made : (v x : ℕ) → answer 0 (x ∷ []) ≡ makeCounter v → x ≡ v
-unfolding makeCounter
-counter-made v x p = accepted (ltb v (2 ^ 4)) x v p
 
 pub follows-told : (a b x y l : ℕ) (f : Bool) → answer 0 (x ∷ []) ≡ makeCounter a → answer 0 (y ∷ []) ≡ makeCounter b → f ≡ follows x y
     → Told (followsAnswer a b) 0 (l ∷ []) (boolByte f ∷ [])
@@ -121,13 +92,3 @@ four-through f xs = go (eqb (length xs) 188) (eqb (getD xs 0 0) 0x47)
 pub four-told : {R : Type 0} {r k : R} {w : ℕ} {lent left : List ℕ} (xs : List ℕ) (f : ℕ → Answer) (given : R → Answer) → r ≡ k → given r ≡ readByteFour xs
     → Told (through f (given k)) w lent left → Told (sound xs (f (getD xs 3 0))) w lent left
 four-told xs f given e p t = told-of (λ k. through f (given k)) e (ap (through f) p ∙ four-through f xs) t
-
--- ---- ES rates
-
-pub rate-refused : (n : ℕ) → answer 14 [] ≡ makeRate n → rateBytes n ≡ answer 14 []
-unfolding makeRate rateBytes
-rate-refused n p = limited-refused (ltb n (2 ^ 22)) (n ∷ []) _ p
-
-pub rate-of : (n x : ℕ) → answer 0 (x ∷ []) ≡ makeRate n → rateBytes x ≡ rateBytes n
-unfolding makeRate
-rate-of n x p = ap rateBytes (accepted (ltb n (2 ^ 22)) x n p)

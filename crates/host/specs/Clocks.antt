@@ -3,12 +3,8 @@ use mathlib.Core.List.{[], _∷_}
 use Prim.Native.Nat.{ℕ}
 use Rattle.bits.specs.Answer.{Answer, answer, andThen, truth}
 use Rattle.bits.specs.Numbers.{done}
-use Rattle.control.specs.declared.ClockRef.{ClockRef}
-use Rattle.control.specs.Clock.{makeClock, sameClock}
+use Rattle.control.specs.Clock.{clock, makeClock, sameClock}
 use Rattle.control.specs.Control.{makeCounter, follows, hasAdaptationField, hasPayload, isScrambled, scrambling}
-
-abbrev pub clock : ℕ → ℕ → ClockRef
-clock b e = record { base = b; extension = e }
 
 -- 14 where one of the pairs is no clock reference, else whether the two are the same
 abbrev pub sameAnswer : ℕ → ℕ → ℕ → ℕ → Answer

@@ -11,7 +11,7 @@ use borrow.Author.Tests.{lt-ltb, le-ltb, le-leb, lt-leb, eq-eqb, ne-eqb}
 use Rattle.bits.specs.Answer.{Answer, answer, pick}
 use Rattle.bits.specs.Field.{bit, field}
 use Rattle.bits.proofs.Fields.{field-split, in-byte}
-use Rattle.bits.proofs.Tests.{limited-in, limited-out, limited-values}
+use Rattle.bits.proofs.Tests.{limited-in, limited-out, limited-value}
 use Rattle.timestamp.specs.Stamp.{stampValue, readStamp, readPrefixed, likelyWrapped, makeStamp}
 
 -- the value, out of the five bytes
@@ -83,7 +83,7 @@ module _ (v : ℕ) where
 -- a timestamp that was made has the number that it was made of
 pub made-value : (v x : ℕ) → answer 0 (x ∷ []) ≡ makeStamp v → x ≡ v
 unfolding makeStamp
-made-value v x e = ap (λ (vs : List ℕ). getD vs 0 0) (limited-values (ltb v (2 ^ 34)) (x ∷ []) (v ∷ []) e)
+made-value v x e = limited-value (ltb v (2 ^ 34)) x v e
 
 module _ (a s : ℕ) where
   pub wrapped-le : a ≤ s → leb (2 ^ 32) (s - a) ≡ likelyWrapped a s

@@ -1,4 +1,5 @@
-use Rattle.host.proofs.Laws.{told, told-as, told-of, number-refused, number-of}
+use Rattle.control.proofs.Laws.{number-refused, number-of}
+use Rattle.host.proofs.Laws.{told, told-as, told-of}
 use mathlib.Core.Path.{refl, sym, ap, _∙_}
 use Rattle.control.specs.Clock.{givenMade, givenNumber}
 use borrow.Author.Needs.{needs}

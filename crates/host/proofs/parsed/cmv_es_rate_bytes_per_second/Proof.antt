@@ -1,4 +1,5 @@
-use Rattle.host.proofs.Laws.{told, told-as, told-of, rate-refused, rate-of}
+use Rattle.contents.proofs.Laws.{rate-refused, rate-kept}
+use Rattle.host.proofs.Laws.{told, told-as, told-of}
 use mathlib.Core.Path.{refl, sym, ap, _∙_}
 use Rattle.contents.specs.Given.{givenRateMade, givenRateNumber}
 use borrow.Author.Needs.{needs}
@@ -8,13 +9,13 @@ use Rattle.host.proofs.parsed.cmv_es_rate_bytes_per_second.Tie as tie
 returns-2 : tie.Need-returns-2
 returns-2 c =
     told-of givenRateNumber (c .before .n .given .1)
-    (c .before .before .before .bytes-per-second .ensures ∙ rate-of _ _ (ap givenRateMade (sym (c .before .before .before .before .before .e .given .1)) ∙ c .before .before .before .before .before .before .before .new .ensures))
+    (c .before .before .before .bytes-per-second .ensures ∙ rate-kept _ _ (ap givenRateMade (sym (c .before .before .before .before .before .e .given .1)) ∙ c .before .before .before .before .before .before .before .new .ensures))
     (told (refl, refl))
 
 returns-3 : tie.Need-returns-3
 returns-3 c =
     told-of givenRateNumber (c .enum-told2 .given .1)
-    (c .before .before .bytes-per-second .ensures ∙ rate-of _ _ (ap givenRateMade (sym (c .before .before .before .before .e .given .1)) ∙ c .before .before .before .before .before .before .new .ensures))
+    (c .before .before .bytes-per-second .ensures ∙ rate-kept _ _ (ap givenRateMade (sym (c .before .before .before .before .e .given .1)) ∙ c .before .before .before .before .before .before .new .ensures))
     (told (refl, refl))
 
 pub cmv-es-rate-bytes-per-second-spec : {M : Type 1} → statement M
