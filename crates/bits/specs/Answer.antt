@@ -1,7 +1,7 @@
 -- An answer: its number (specs/Numbers.antt), and the values named with it, in a fixed order.
 use mathlib.Core.Path.{_≡_}
 use mathlib.Core.Bool.{Bool, true, false}
-use mathlib.Core.List.{List, [], _∷_}
+use mathlib.Core.List.{List, [], _∷_, _++_}
 use Prim.Native.Nat.{ℕ, _+_, _≤_}
 use lib.Dec.{eqb, leb}
 use lib.ListN.{length, getD, take, drop}
@@ -35,6 +35,10 @@ truth false = 0
 -- n bytes from a place on; none where they would leave the bytes
 unfoldable pub partAt : ℕ → ℕ → List ℕ → List ℕ
 partAt p n xs = pick (leb (p + n) (length xs)) (take n (drop p xs)) []
+
+-- the same bytes the other way: d with the bytes s from a place on; d itself where they would leave it
+unfoldable pub placedAt : List ℕ → ℕ → List ℕ → List ℕ
+placedAt d p s = pick (leb (p + length s) (length d)) (take p d ++ (s ++ drop (p + length s) d)) d
 
 -- the part that an answer of place and length names; empty on a refusal
 unfoldable pub partOf : Answer → List ℕ → List ℕ
