@@ -35,6 +35,12 @@ def escr(base, extension):
 class Maker:
     def __init__(self):
         self.rng = random.Random(1)
+        self.rates = 0
+
+    def rate(self):
+        """Of every width in turn: not every reader takes large ones."""
+        self.rates += 1
+        return self.rng.getrandbits(22) >> self.rates % 22
 
     def time(self):
         return self.rng.getrandbits(33)
@@ -75,7 +81,7 @@ class Maker:
         if flags & 0x20:
             fields += escr(self.time(), self.rng.randrange(300))
         if flags & 0x10:
-            fields += joined((1, 1), (self.rng.getrandbits(22), 22), (1, 1))
+            fields += joined((1, 1), (self.rate(), 22), (1, 1))
         if flags & 0x08:
             fields += self.rng.randbytes(1)
         if flags & 0x04:

@@ -1,11 +1,13 @@
 """third.py STREAM LISTING.. : holds what the library reads of transport streams (a listing of 'differential fields' for each) against
-tsreport of tstools, tshark of Wireshark and ffprobe of ffmpeg, and prints how many of their values agree.
+tsreport of tstools, tshark of Wireshark, ffprobe of ffmpeg and mpegpsdemux of GStreamer, and prints how many of their values agree.
 
 Two tables: the times for each stream, and every field over all streams. A cell is AGREED/COMPARED; a value is compared where both
 give one. What the others cannot tell, or tell otherwise:
   - tshark shows a PES header at the packet that completes the unit, so the units of a PID are matched in their order, and the last one
-    is often missing; its times are in nanoseconds and rounded to ticks here; its ES rate (Wireshark 4.0) is not that of the field's
-    bits and is left out.
+    is often missing; its times are in nanoseconds and rounded to ticks here. Its ES rate (Wireshark 4.0) is made of the upper 14 of the
+    22 bits alone, times 25, modulo 2^14: as 25 is odd those 14 bits are got back from it.
+  - mpegpsdemux reads headers of a program stream, so each is put into one; it lays ES rates of 2^15 and more over one another, so the
+    smaller ones are compared. With tshark's every bit of the field is seen by one of the two.
   - ffprobe splits audio units into frames and does not wrap times: rows that begin a unit are compared, modulo 2^33.
 """
 
@@ -21,7 +23,9 @@ SIZE = 188
 WRAP = 2**33
 FIRST_ID = 0xBC
 TIMES = ("PCR", "PTS", "DTS", "ESCR")
-READERS = ("tsreport", "tshark", "ffprobe")
+READERS = ("tsreport", "tshark", "ffprobe", "gstreamer")
+SMALL_RATE = 2**15
+UPPER = 2**14
 SHOWN = 20  # how many differences are printed
 
 
@@ -80,7 +84,10 @@ LISTED = {
         ("DTS", lambda v: v[4] if v[0] == 2 and v[3] == 0 else None),
     ],
     "pes_contents::escr": [("ESCR", lambda v: v[0] * 300 + v[1])],
-    "pes_contents::es_rate": [("ES rate", lambda v: v[0])],
+    "pes_contents::es_rate": [
+        ("ES rate below 2^15", lambda v: v[0] if v[0] < SMALL_RATE else None),
+        ("ES rate's upper 14 bits", lambda v: v[0] >> 8),
+    ],
     "pes_contents::raw_trick_mode": [("trick mode byte", lambda v: v[0])],
     "pes_contents::additional_copy_info": [("copy info", lambda v: v[0])],
     "pes_contents::previous_pes_packet_crc": [("CRC", lambda v: v[0])],
@@ -183,6 +190,7 @@ PES_FIELDS = {
     "mpeg-pes.pts": ("PTS", ticks(90_000)),
     "mpeg-pes.dts": ("DTS", ticks(90_000)),
     "mpeg-pes.escr": ("ESCR", ticks(27_000_000)),
+    "mpeg-pes.es-rate": ("ES rate's upper 14 bits", lambda text: number(text) * pow(25, -1, UPPER) % UPPER),
     "mpeg-pes.trick-mode": ("trick mode byte", lambda text: int(text, 16)),
     "mpeg-pes.copy-info": ("copy info", number),
     "mpeg-pes.crc": ("CRC", number),
@@ -260,6 +268,35 @@ def of_ffprobe(stream, ours):
     return values
 
 
+# ---- mpegpsdemux
+
+PACK = bytes.fromhex("000001BA 44 00 04 00 04 01 00 9C 43 F8")  # a pack header with a clock of 0
+
+
+def of_gstreamer(stream, ours):
+    """Its element prints the ES rate of each header that it reads, and nothing else of use here."""
+    values = Values()
+    places = sorted(ours.fields["ES rate below 2^15"])
+    if not places:
+        return values
+    with tempfile.TemporaryDirectory() as folder:
+        program_stream = os.path.join(folder, "stream.mpg")
+        with open(stream, "rb") as file, open(program_stream, "wb") as out:
+            for place in places:
+                file.seek(place)
+                packet = file.read(SIZE)
+                unit = packet[5 + packet[4] :] if packet[3] & 0x20 else packet[4:]
+                out.write(PACK + unit[:4] + (len(unit) - 6).to_bytes(2, "big") + unit[6:])
+            out.write(bytes.fromhex("000001B9"))
+        words = ["env", "GST_DEBUG=*:6", "GST_DEBUG_NO_COLOR=1", "GST_DEBUG_FILE=" + os.path.join(folder, "log")]
+        run(*words, "gst-launch-1.0", "-q", "filesrc", "location=" + program_stream, "!", "mpegpsdemux", "!", "fakesink")
+        with open(os.path.join(folder, "log"), encoding="ascii", errors="replace") as log:
+            rates = re.findall(r"ES Rate found (\d+)", log.read())
+    if len(rates) == len(places):
+        values.fields["ES rate below 2^15"] = {place: int(rate) for place, rate in zip(places, rates)}
+    return values
+
+
 # ---- the tables
 
 
@@ -314,6 +351,7 @@ def main(words):
         tally.take(names[-1], "tsreport", ours, of_tsreport(stream))
         tally.take(names[-1], "tshark", ours, of_tshark(stream, ours))
         tally.take(names[-1], "ffprobe", ours, of_ffprobe(stream, ours))
+        tally.take(names[-1], "gstreamer", ours, of_gstreamer(stream, ours))
     print_tables(tally, names, [field for fields in LISTED.values() for field, _ in fields])
     sys.exit(0 if tally.cells and tally.differ == 0 else 1)
 
