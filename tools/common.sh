@@ -3,7 +3,8 @@
 
 top=$(cd "$(dirname "${BASH_SOURCE[0]}")/.." && pwd -P)
 target=$top/target
-library=$target/staticlib/libhost.a
+parts=(host host_streams) # the crates that are built as archives: together they are the library
+library=("$target/staticlib/libhost.a" "$target/staticlib/libhost_streams.a")
 triple=x86_64-unknown-linux-gnu # what the library is compiled for
 
 fail() {
@@ -33,9 +34,20 @@ find_rustc() {
     fail "no rustc has a std for $triple: run tools/setup"
 }
 
-# The library, built from the proved crates where it is not there.
+# The library, built from the proved crates.
+build_library() {
+    local part
+    for part in "${parts[@]}"; do
+        (cd "$top" && rt staticlib "$part") || fail "the library cannot be built"
+    done
+}
+
+# The library, built where an archive of it is not there.
 need_library() {
-    [ -e "$library" ] || (cd "$top" && rt staticlib host) || fail "the library cannot be built"
+    local archive
+    for archive in "${library[@]}"; do
+        [ -e "$archive" ] || { build_library && return; }
+    done
 }
 
 # The oracle, in target/oracle: with Debian's crates or, where they do not build, with stand-ins for them.
@@ -74,11 +86,11 @@ need_rust() { # NAME
         -o "$archive" "$top/rust/$name/main.rs" || fail "rust/$name cannot be built"
 }
 
-# Links such a program with a library.
-link_rust() { # NAME LIBRARY PROGRAM
+# Links such a program with a library, its archives or objects.
+link_rust() { # NAME PROGRAM LIBRARY..
     local linker=cc
     on_x86 || linker=x86_64-linux-gnu-gcc
-    "$linker" -Wl,--gc-sections -o "$3" "$target/$1/lib$1.a" "$2" || fail "rust/$1 cannot be linked with the library"
+    "$linker" -Wl,--gc-sections -o "$2" "$target/$1/lib$1.a" "${@:3}" || fail "rust/$1 cannot be linked with the library"
 }
 
 # Runs an x86-64 program: as it is where that can be, else as rt does, under the toolchain's emulator and C library.

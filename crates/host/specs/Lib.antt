@@ -2,4 +2,3 @@ pub mod Told
 pub mod Stamps
 pub mod Clocks
 pub mod Packets
-pub mod Machines

@@ -4,7 +4,6 @@
 pub mod clocks;
 pub mod fields;
 pub mod heads;
-pub mod machines;
 pub mod numbers;
 pub mod packets;
 pub mod parsed;

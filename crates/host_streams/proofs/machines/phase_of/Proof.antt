@@ -1,6 +1,6 @@
 use borrow.Author.Tests.{ne-eqb}
-use Rattle.host.proofs.machines.phase_of.Statement.{statement}
-use Rattle.host.proofs.machines.phase_of.Tie as tie
+use Rattle.host_streams.proofs.machines.phase_of.Statement.{statement}
+use Rattle.host_streams.proofs.machines.phase_of.Tie as tie
 
 returns : tie.Need-returns
 returns c = rw (c .match .keys1)

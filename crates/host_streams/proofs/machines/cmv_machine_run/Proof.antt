@@ -7,10 +7,10 @@ use Rattle.machine.specs.Run.{packetsOf, Ran, runOf}
 use Rattle.machine.specs.declared.Phase.{Phase}
 use Rattle.machine.specs.declared.Last.{Last}
 use Rattle.machine.specs.declared.Stepped.{Stepped}
-use Rattle.host.specs.Machines.{phaseOf, lastOf, phaseNumber, lastNumber, machineOf, hostRun, Left}
+use Rattle.host_streams.specs.Machines.{phaseOf, lastOf, phaseNumber, lastNumber, machineOf, hostRun, Left}
 use borrow.Author.Needs.{needs}
-use Rattle.host.proofs.machines.cmv_machine_run.Statement.{statement}
-use Rattle.host.proofs.machines.cmv_machine_run.Tie as tie
+use Rattle.host_streams.proofs.machines.cmv_machine_run.Statement.{statement}
+use Rattle.host_streams.proofs.machines.cmv_machine_run.Tie as tie
 
 -- what the calls say together, in terms of variables
 module _ (r : Stepped) (ph : Phase) (la : Last) (p l t a : ℕ) (bs ys ys′ : List ℕ) (eph : ph ≡ phaseOf p) (ela : la ≡ lastOf p l)

@@ -6,10 +6,10 @@ use Rattle.machine.specs.Step.{Outcome, verdictNumber, given, stepOf, logOf}
 use Rattle.machine.specs.declared.Phase.{Phase}
 use Rattle.machine.specs.declared.Last.{Last}
 use Rattle.machine.specs.declared.Stepped.{Stepped}
-use Rattle.host.specs.Machines.{Advanced, machineOf, phaseOf, lastOf, phaseNumber, lastNumber, hostStep, hostLog}
+use Rattle.host_streams.specs.Machines.{Advanced, machineOf, phaseOf, lastOf, phaseNumber, lastNumber, hostStep, hostLog}
 use borrow.Author.Needs.{needs}
-use Rattle.host.proofs.machines.cmv_machine_step.Statement.{statement}
-use Rattle.host.proofs.machines.cmv_machine_step.Tie as tie
+use Rattle.host_streams.proofs.machines.cmv_machine_step.Statement.{statement}
+use Rattle.host_streams.proofs.machines.cmv_machine_step.Tie as tie
 
 -- what the calls say together, in terms of variables
 module _ (r : Stepped) (ph : Phase) (la : Last) (p l t a : ℕ) (xs ys ys′ : List ℕ) (eph : ph ≡ phaseOf p) (ela : la ≡ lastOf p l)

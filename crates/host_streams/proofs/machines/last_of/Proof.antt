@@ -1,6 +1,6 @@
 use borrow.Author.Tests.{lt-ltb, le-ltb, eq-eqb, ne-eqb}
-use Rattle.host.proofs.machines.last_of.Statement.{statement}
-use Rattle.host.proofs.machines.last_of.Tie as tie
+use Rattle.host_streams.proofs.machines.last_of.Statement.{statement}
+use Rattle.host_streams.proofs.machines.last_of.Tie as tie
 
 returns : tie.Need-returns
 returns c = simp (lt-ltb _ _ (c .if1 .taken))

@@ -1,9 +1,9 @@
 use mathlib.Core.Path.{refl, sym, ap, _∙_}
 use Rattle.log.specs.Entry.{givenEntry}
 use Rattle.host.proofs.Laws.{told, told-as}
 use borrow.Author.Needs.{needs}
-use Rattle.host.proofs.machines.cmv_log_entry_at.Statement.{statement}
-use Rattle.host.proofs.machines.cmv_log_entry_at.Tie as tie
+use Rattle.host_streams.proofs.machines.cmv_log_entry_at.Statement.{statement}
+use Rattle.host_streams.proofs.machines.cmv_log_entry_at.Tie as tie
 
 returns : tie.Need-returns
 returns c = told-as (sym (c .before .before .before .before .before .before .before .entry-at .ensures) ∙ ap givenEntry (c .before .before .before .before .before .e .given .1)) (told (refl, refl))
