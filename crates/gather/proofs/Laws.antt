@@ -1,0 +1,416 @@
+-- What the definitions of `specs/` come to, in each case. The functions' proofs cite these.
+-- Assumes nothing.
+use mathlib.Core.Path.{_≡_, refl, sym, ap, _∙_}
+use mathlib.Core.Bool.{Bool, true, false}
+use mathlib.Core.List.{List, [], _∷_}
+use Prim.Native.Nat.{ℕ, _+_, _-_, _≤_, _<_}
+use native.Mathlib.Omega.{arith}
+use types.Run.{OneOf, miss}
+use denote.Enum.Declared.{tagOf}
+use lib.ListN.{length, getD, take, drop, length-drop}
+use lib.Dec.{eqb, leb, ltb}
+use borrow.Author.Tests.{lt-ltb, le-ltb, le-leb, lt-leb, leb-true, leb-false, eq-eqb, ne-eqb, eqb-true}
+use Rattle.bits.specs.Answer.{Answer, answer, pick, truth, partAt, placedAt, Within}
+use Rattle.bits.specs.Field.{field}
+use Rattle.bits.proofs.Parts.{part-rest, part-in, part-length, part-of-part, part-refused, part-done}
+use Rattle.pes.specs.declared.ContentsRead.{ContentsRead}
+use Rattle.pes.specs.Stream.{parsedId}
+use Rattle.pes.specs.Head.{headed, idOf, givenContents, readContents, contentsPart}
+use Rattle.pes.proofs.Laws.{headed-done}
+use Rattle.contents.specs.declared.PartRead.{PartRead}
+use Rattle.contents.specs.Contents.{readPayload}
+use Rattle.contents.specs.Given.{givenPart}
+use Rattle.contents.proofs.PartRead.{the-type as part-type}
+use Rattle.contents.proofs.Laws.{payload-within, part-refusal}
+use Rattle.log.specs.declared.Event.{Event}
+use Rattle.gather.specs.declared.Lies.{Lies}
+use Rattle.gather.specs.declared.Lies.the-variants.{Packet, Store}
+use Rattle.gather.specs.declared.Gathering.{Gathering}
+use Rattle.gather.specs.declared.HeldRead.{HeldRead}
+use Rattle.gather.proofs.HeldRead.{the-type}
+use Rattle.gather.specs.Belongs.{eventBytes, later, belongs, ownPlace, ownBytes}
+use Rattle.gather.specs.Gather.{gathering, fresh, judged, eventGood, inPacket, stateGood, kept, added, next, numberOf, Outcome}
+use Rattle.gather.specs.Gather.{outcome, gatherOf, storeOf, givenHeld, readOf, lying, bytesOf, Possible, moved}
+
+-- ---- which bytes belong to a unit
+
+-- a place and a length are those of a unit's bytes among those of its begin
+abbrev Own : List ℕ → ℕ → ℕ → Type 0
+Own xs p n = (p ≡ ownPlace xs) × (partAt p n xs ≡ ownBytes xs) × (p + n ≤ length xs)
+
+is-true : (t : Bool) → 1 ≡ truth t → t ≡ true
+is-true true e = refl
+is-true false e = absurd (omega arith)
+
+is-false : (t : Bool) → 0 ≡ truth t → t ≡ false
+is-false true e = absurd (omega arith)
+is-false false e = refl
+
+module _ (xs : List ℕ) where
+  own-none : (belongs xs .number ≡ 0 → ⊥) → Own xs 0 0
+  unfolding ownPlace ownBytes
+  own-none h =
+      (simp (ne-eqb (belongs xs .number) 0 h), sym (part-in 0 0 xs (omega arith)) ∙ part-refused (belongs xs) xs h, omega arith)
+
+  own-some : (p n : ℕ) → answer 0 (p ∷ n ∷ []) ≡ belongs xs → p + n ≤ length xs → Own xs p n
+  unfolding ownPlace ownBytes
+  own-some p n e h =
+      let w : Within (belongs xs) xs = rw (← e) (λ z. h) in
+      (rw (← e) refl, part-done (belongs xs) xs p n e w, h)
+
+  -- a head that is refused is so whatever is read of it
+  head-refused : (a b : Answer) → a .number ≡ 0 → 0 < headed xs a .number → headed xs b ≡ headed xs a
+  unfolding headed
+  head-refused a b z = go (ltb (length xs) 6) (eqb (field xs 0 24) 1)
+    where
+      go : (l p : Bool) → 0 < pick l (answer 3 []) (pick p a (answer 4 [])) .number
+          → pick l (answer 3 []) (pick p b (answer 4 [])) ≡ pick l (answer 3 []) (pick p a (answer 4 []))
+      go true p h = refl
+      go false true h = absurd (omega arith)
+      go false false h = refl
+
+  module _ (r s : ContentsRead) (e : r ≡ s) (g : givenContents r ≡ readContents xs) where
+    answered : givenContents s ≡ readContents xs
+    answered = sym (ap givenContents e) ∙ g
+
+    pub belongs-refused : 0 < givenContents s .number → Own xs 0 0
+    unfolding belongs
+    belongs-refused h =
+        let k : 0 < readContents xs .number = rw answered at h in
+        own-none (λ z. let f = head-refused _ (pick (parsedId (idOf xs)) (later 6 (readPayload (drop 6 xs))) (contentsPart xs)) refl k in
+        let y : readContents xs .number ≡ 0 = ap (λ (a : Answer). a .number) (sym f) ∙ z in omega arith)
+
+  -- what is known where the head is accepted: kind, place and length of what follows it
+  known : (t k p n : ℕ) → answer 0 (k ∷ p ∷ n ∷ []) ≡ headed xs (answer 0 (t ∷ 6 ∷ (length xs - 6) ∷ []))
+      → (6 ≤ length xs) × ((b : Answer) → headed xs b ≡ b) × (k ≡ t) × (p ≡ 6) × (n ≡ length xs - 6)
+  known t k p n f =
+      let h = headed-done xs (answer 0 (t ∷ 6 ∷ (length xs - 6) ∷ [])) (ap (λ (a : Answer). a .number) (sym f)) in
+      let e = f ∙ h .1 (answer 0 (t ∷ 6 ∷ (length xs - 6) ∷ [])) in
+      let v : ℕ → Answer → ℕ = λ i a. getD (a .values) i 0 in
+      (h .0, h .1, ap (v 0) e, ap (v 1) e, ap (v 2) e)
+
+  pub belongs-bare : (r : ContentsRead) (p n : ℕ) → r ≡ ContentsRead.Payload p n → givenContents r ≡ readContents xs
+      → Own xs p n
+  unfolding belongs
+  belongs-bare r p n e g =
+      let t = parsedId (idOf xs) in
+      let k = known (truth t) 0 p n (sym (ap givenContents e) ∙ g) in
+      let f : belongs xs ≡ answer 0 (6 ∷ (length xs - 6) ∷ []) = k .1 _ ∙ rw (is-false t (k .2)) (k .1 _) in
+      own-some p n (rw (k .3, k .4) (sym f)) (omega arith)
+
+  module _ (r : ContentsRead) (p n : ℕ) (e : r ≡ ContentsRead.Parsed p n) (g : givenContents r ≡ readContents xs) where
+    pub parsed-there : (p ≡ 6) × (6 ≤ length xs)
+    parsed-there = let k = known (truth (parsedId (idOf xs))) 1 p n (sym (ap givenContents e) ∙ g) in (k .3, k .0)
+
+    belongs-parsed : belongs xs ≡ later 6 (readPayload (drop 6 xs))
+    unfolding belongs
+    belongs-parsed =
+        let t = parsedId (idOf xs) in
+        let k = known (truth t) 1 p n (sym (ap givenContents e) ∙ g) in
+        k .1 _ ∙ rw (is-true t (k .2))
+
+    module _ (q : PartRead) (f : givenPart q ≡ readPayload (take (length xs - p) (drop p xs))) where
+      payload-of : givenPart q ≡ readPayload (drop 6 xs)
+      payload-of = f ∙ (ap readPayload (part-rest p xs) ∙ ap (λ (m : ℕ). readPayload (drop m xs)) (parsed-there .0))
+
+      pub contents-refused : OneOf (1 ∷ 2 ∷ []) (tagOf part-type q) → Own xs 0 0
+      contents-refused k =
+          let z : readPayload (drop 6 xs) .number ≡ 0 → ⊥ = λ y. part-refusal q k (ap (λ (a : Answer). a .number) payload-of ∙ y) in
+          own-none (rw (belongs-parsed, ne-eqb (readPayload (drop 6 xs) .number) 0 z) z)
+
+      pub contents-accepted : (a m : ℕ) → q ≡ PartRead.Done a m → Own xs (p + a) m
+      contents-accepted a m h =
+          let y : answer 0 (a ∷ m ∷ []) ≡ readPayload (drop 6 xs) = ap givenPart (sym h) ∙ payload-of in
+          let w : a + m ≤ length (drop 6 xs) = (rw (← y) at (payload-within (drop 6 xs))) refl in
+          own-some (p + a) m (rw (belongs-parsed, ← y, parsed-there .0)) (omega (arith, length-drop 6 xs, parsed-there))
+
+-- ---- what cannot be
+
+module _ (e : Event) where
+  pub kind-none : e .kind < 1 → false ≡ eventGood e
+  unfolding eventGood
+  kind-none h = simp (lt-leb 1 (e .kind) h)
+
+  pub kind-past : 5 < e .kind → false ≡ eventGood e
+  unfolding eventGood
+  kind-past h = simp (le-leb 1 (e .kind) (omega arith), lt-leb (e .kind) 5 h)
+
+  pub part-tested : (1 ≤ e .kind) × (e .kind ≤ 5) → leb (e .place + e .length) 188 ≡ eventGood e
+  unfolding eventGood
+  part-tested h = simp (le-leb 1 (e .kind) (h .0), le-leb (e .kind) 5 (h .1))
+
+  pub part-inside : eventGood e ≡ true → e .place + e .length ≤ 188
+  unfolding eventGood
+  part-inside = go (leb 1 (e .kind)) (leb (e .kind) 5) (leb (e .place + e .length) 188) (leb-true (e .place + e .length) 188)
+    where
+      go : {A : Type 0} (a b c : Bool) → (c ≡ true → A) → pick a (pick b c false) false ≡ true → A
+      go true true c f h = f h
+      go true false c f h = let z : _≡_ {A = ℕ} 0 1 = cc in absurd (omega arith)
+      go false b c f h = let z : _≡_ {A = ℕ} 0 1 = cc in absurd (omega arith)
+
+-- a bound moved to the other side
+moved-bound : (a n b : ℕ) → a ≤ b → leb n (b - a) ≡ leb (a + n) b
+moved-bound a n b h = go (leb n (b - a)) refl
+  where
+    go : (t : Bool) → leb n (b - a) ≡ t → t ≡ leb (a + n) b
+    go true e = sym (le-leb (a + n) b (omega (arith, leb-true n (b - a) e)))
+    go false e = sym (lt-leb (a + n) b (omega (arith, leb-false n (b - a) e)))
+
+module _ (l : Lies) (a n : ℕ) (e : l ≡ Packet a) where
+  pub packet-past : 188 < a → false ≡ inPacket l n
+  packet-past h = rw (e, lt-leb (a + n) 188 (omega arith))
+
+  pub packet-tested : a ≤ 188 → leb n (188 - a) ≡ inPacket l n
+  packet-tested h = rw e (moved-bound a n 188 h)
+
+module _ (g : Gathering) (room : ℕ) where
+  pub state-past : room < g .count → false ≡ stateGood g room
+  unfolding stateGood
+  state-past h = simp (lt-leb (g .count) room h)
+
+  pub state-tested : (b : Bool) → g .count ≤ room → b ≡ inPacket (g .lies) (g .count) → b ≡ stateGood g room
+  unfolding stateGood
+  state-tested b h e = simp (le-leb (g .count) room h) e
+
+  -- what is known of a state that can be
+  pub state-inside : stateGood g room ≡ true → (g .count ≤ room) × (inPacket (g .lies) (g .count) ≡ true)
+  unfolding stateGood
+  state-inside = go (leb (g .count) room) (inPacket (g .lies) (g .count)) (leb-true (g .count) room)
+    where
+      go : {A : Type 0} (a b : Bool) → (a ≡ true → A) → pick a b false ≡ true → A × (b ≡ true)
+      go true b f h = (f refl, h)
+      go false b f h = let z : _≡_ {A = ℕ} 0 1 = cc in absurd (omega arith)
+
+module _ (p : List ℕ) (t : Bool) (n : ℕ) where
+  judged-length : (length p ≡ 188 → ⊥) → judged p t n ≡ 1
+  judged-length h = simp (ne-eqb (length p) 188 h)
+
+  judged-sync : length p ≡ 188 → (getD p 0 0 ≡ 71 → ⊥) → judged p t n ≡ 2
+  judged-sync h k = simp (eq-eqb (length p) 188 h, ne-eqb (getD p 0 0) 71 k)
+
+  judged-out : length p ≡ 188 → getD p 0 0 ≡ 71 → t ≡ false → judged p t n ≡ 14
+  judged-out h k e = simp (eq-eqb (length p) 188 h, eq-eqb (getD p 0 0) 71 k, e)
+
+  judged-in : length p ≡ 188 → getD p 0 0 ≡ 71 → t ≡ true → judged p t n ≡ n
+  judged-in h k e = simp (eq-eqb (length p) 188 h, eq-eqb (getD p 0 0) 71 k, e)
+
+-- ---- the bytes so far
+
+module _ (g : Gathering) (p s : List ℕ) where
+  pub read-length : (length p ≡ 188 → ⊥) → 1 ≡ readOf g p s
+  unfolding readOf
+  read-length h = sym (judged-length p (stateGood g (length s)) 0 h)
+
+  pub read-sync : length p ≡ 188 → (getD p 0 0 ≡ 71 → ⊥) → 2 ≡ readOf g p s
+  unfolding readOf
+  read-sync h k = sym (judged-sync p (stateGood g (length s)) 0 h k)
+
+  pub read-out : length p ≡ 188 → getD p 0 0 ≡ 71 → stateGood g (length s) ≡ false → 14 ≡ readOf g p s
+  unfolding readOf
+  read-out h k e = sym (judged-out p _ 0 h k e)
+
+  pub read-done : length p ≡ 188 → getD p 0 0 ≡ 71 → stateGood g (length s) ≡ true → 0 ≡ readOf g p s
+  unfolding readOf
+  read-done h k e = sym (judged-in p _ 0 h k e)
+
+  pub bytes-refused : (readOf g p s ≡ 0 → ⊥) → [] ≡ bytesOf g p s
+  unfolding bytesOf
+  bytes-refused h = simp (ne-eqb (readOf g p s) 0 h)
+
+  pub bytes-are : (l : Lies) (r : List ℕ) → readOf g p s ≡ 0 → g .lies ≡ l → r ≡ lying l (g .count) p s → r ≡ bytesOf g p s
+  unfolding bytesOf
+  bytes-are l r z e h = simp (eq-eqb (readOf g p s) 0 z, e) h
+
+pub held-refusal : (r : HeldRead) → OneOf (1 ∷ 2 ∷ 3 ∷ []) (tagOf the-type r) → givenHeld r ≡ 0 → ⊥
+held-refusal HeldRead.Done k z = miss (1 ∷ 2 ∷ 3 ∷ []) 0 tt k
+held-refusal HeldRead.WrongLength k z = omega arith
+held-refusal HeldRead.NoSync k z = omega arith
+held-refusal HeldRead.OutOfRange k z = omega arith
+
+-- ---- the state after an event
+
+module _ (g : Gathering) (k n a : ℕ) where
+  pub moved-start : k ≡ 1 → g ≡ moved g k n a
+  unfolding moved
+  moved-start e = simp e
+
+  pub moved-begin : k ≡ 2 → gathering true n (Packet a) ≡ moved g k n a
+  unfolding moved
+  moved-begin e = simp e
+
+  pub moved-continue : k ≡ 3 → gathering (g .opened) n Store ≡ moved g k n a
+  unfolding moved
+  moved-continue e = simp e
+
+  pub moved-end : k ≡ 4 → gathering false n Store ≡ moved g k n a
+  unfolding moved
+  moved-end e = simp e
+
+  pub moved-break : (k ≡ 1 → ⊥) × (k ≡ 2 → ⊥) × (k ≡ 3 → ⊥) × (k ≡ 4 → ⊥) → fresh ≡ moved g k n a
+  unfolding moved
+  moved-break h = simp (ne-eqb k 1 (h .0), ne-eqb k 2 (h .1), ne-eqb k 3 (h .2), ne-eqb k 4 (h .3))
+
+-- ---- the bytes that an event adds
+
+-- a place and a length in the packet are those of the bytes that an event adds
+abbrev Adds : Gathering → List ℕ → Event → ℕ → ℕ → Type 0
+Adds g p e a n = (partAt a n p ≡ added g p e) × (a + n ≤ 188) × (e .kind ≡ 2 → a ≡ e .place + ownPlace (eventBytes p e))
+
+module _ (g : Gathering) (e : Event) where
+  pub kept-begin : e .kind ≡ 2 → kept g e ≡ 0
+  kept-begin k = simp (eq-eqb (e .kind) 2 k)
+
+  pub kept-other : (e .kind ≡ 2 → ⊥) → kept g e ≡ g .count
+  kept-other k = simp (ne-eqb (e .kind) 2 k)
+
+  kept-least : kept g e ≤ g .count
+  kept-least = go (eqb (e .kind) 2)
+    where
+      go : (t : Bool) → pick t 0 (g .count) ≤ g .count
+      go true = omega arith
+      go false = omega arith
+
+-- the bytes that an event names are a part of its packet
+pub event-part : (p : List ℕ) (e : Event) → length p ≡ 188 → e .place + e .length ≤ 188 → eventBytes p e ≡ partAt (e .place) (e .length) p
+unfolding eventBytes
+event-part p e l h = part-in (e .place) (e .length) p (omega arith)
+
+module _ (g : Gathering) (p : List ℕ) (e : Event) where
+  pub added-begin : e .kind ≡ 2 → ownBytes (eventBytes p e) ≡ added g p e
+  unfolding added
+  added-begin h = simp (eq-eqb (e .kind) 2 h)
+
+  pub added-open : e .kind ≡ 3 → g .opened ≡ true → eventBytes p e ≡ added g p e
+  unfolding added
+  added-open h o = simp (h, o)
+
+  pub added-closed : e .kind ≡ 3 → g .opened ≡ false → [] ≡ added g p e
+  unfolding added
+  added-closed h o = simp (h, o)
+
+  pub added-none : (e .kind ≡ 2 → ⊥) → (e .kind ≡ 3 → ⊥) → [] ≡ added g p e
+  unfolding added
+  added-none h k = simp (ne-eqb (e .kind) 2 h, ne-eqb (e .kind) 3 k)
+
+  nothing : [] ≡ partAt 0 0 p
+  nothing = part-in 0 0 p (omega arith)
+
+  module _ (l : length p ≡ 188) (i : eventGood e ≡ true) where
+    pub adds-begin : (xs : List ℕ) (a n : ℕ) → e .kind ≡ 2 → xs ≡ partAt (e .place) (e .length) p
+        → Own xs a n
+        → Adds g p e (e .place + a) n
+    adds-begin xs a n k x h =
+        let f : xs ≡ eventBytes p e = x ∙ sym (event-part p e l (part-inside e i)) in
+        let m : length xs ≡ e .length = rw x (part-length (e .place) (e .length) p (omega (arith, part-inside e i))) in
+        let b : partAt a n xs ≡ added g p e = h .1 ∙ (ap ownBytes f ∙ added-begin k) in (
+          sym (part-of-part (e .place) (e .length) a n p (omega (arith, part-inside e i)) (omega arith)) ∙ (ap (partAt a n) (sym x) ∙ b),
+          omega (arith, part-inside e i),
+          λ z. ap (λ (t : ℕ). e .place + t) (h .0 ∙ ap ownPlace f),
+        )
+
+    pub adds-open : e .kind ≡ 3 → g .opened ≡ true → Adds g p e (e .place) (e .length)
+    adds-open k o = (sym (event-part p e l (part-inside e i)) ∙ added-open k o, part-inside e i, λ z. absurd (omega arith))
+
+  pub adds-closed : e .kind ≡ 3 → g .opened ≡ false → Adds g p e 0 0
+  adds-closed k o = (sym nothing ∙ added-closed k o, omega arith, λ z. absurd (omega arith))
+
+  pub adds-none : (e .kind ≡ 2 → ⊥) → (e .kind ≡ 3 → ⊥) → Adds g p e 0 0
+  adds-none h k = (sym nothing ∙ added-none h k, omega arith, λ z. absurd (h z))
+
+-- ---- a call
+
+-- an outcome and a store's bytes are those of a call
+abbrev Meets : Gathering → List ℕ → Event → List ℕ → Outcome → List ℕ → Type 0
+Meets g p e s o s′ = (o ≡ gatherOf g p e s) × (s′ ≡ storeOf g p e s)
+
+module _ (g : Gathering) (p : List ℕ) (e : Event) (s : List ℕ) where
+  -- 20 apart, a refusal leaves state and store
+  refused : (n : ℕ) → numberOf g p e s ≡ n → eqb n 0 ≡ false → eqb n 20 ≡ false → Meets g p e s (outcome n g) s
+  unfolding gatherOf storeOf
+  refused n z a b = simp (z, a, b) (refl, refl)
+
+  pub wrong-length : (length p ≡ 188 → ⊥) → Meets g p e s (outcome 1 g) s
+  unfolding numberOf
+  wrong-length h = refused 1 (judged-length p (pick (eventGood e) (stateGood g (length s)) false) _ h) refl refl
+
+  module _ (l : length p ≡ 188) where
+    pub no-sync : (getD p 0 0 ≡ 71 → ⊥) → Meets g p e s (outcome 2 g) s
+    unfolding numberOf
+    no-sync h = refused 2 (judged-sync p (pick (eventGood e) (stateGood g (length s)) false) _ l h) refl refl
+
+    module _ (y : getD p 0 0 ≡ 71) where
+      pub bad-event : eventGood e ≡ false → Meets g p e s (outcome 14 g) s
+      unfolding numberOf
+      bad-event h = refused 14 (judged-out p (pick (eventGood e) (stateGood g (length s)) false) _ l y (rw h)) refl refl
+
+      pub bad-state : eventGood e ≡ true → stateGood g (length s) ≡ false → Meets g p e s (outcome 14 g) s
+      unfolding numberOf
+      bad-state h k = refused 14 (judged-out p (pick (eventGood e) (stateGood g (length s)) false) _ l y (rw (h, k))) refl refl
+
+  -- the state after it is one, by the bytes that the unit then has
+  pub moved-next : (a : ℕ) → (e .kind ≡ 2 → a ≡ e .place + ownPlace (eventBytes p e))
+      → moved g (e .kind) (kept g e + length (added g p e)) a ≡ next g p e
+  unfolding moved next
+  moved-next a h = go (eqb (e .kind) 1) (eqb (e .kind) 2) refl (eqb (e .kind) 3) refl (eqb (e .kind) 4) refl
+    where
+      m : ℕ
+      m = length (added g p e)
+
+      go : (t₁ t₂ : Bool) → eqb (e .kind) 2 ≡ t₂ → (t₃ : Bool) → eqb (e .kind) 3 ≡ t₃ → (t₄ : Bool) → eqb (e .kind) 4 ≡ t₄
+          → pick t₁ g (pick t₂ (gathering true (kept g e + m) (Packet a))
+          (pick t₃ (gathering (g .opened) (kept g e + m) Store) (pick t₄ (gathering false (kept g e + m) Store) fresh)))
+          ≡ pick t₁ g (pick t₂ (gathering true m (Packet (e .place + ownPlace (eventBytes p e))))
+          (pick t₃ (gathering (g .opened) (g .count + m) Store) (pick t₄ (gathering false (g .count) Store) fresh)))
+      go true t₂ f₂ t₃ f₃ t₄ f₄ = refl
+      go false true f₂ t₃ f₃ t₄ f₄ =
+          let k : e .kind ≡ 2 = eqb-true (e .kind) 2 f₂ in
+          let c : kept g e + m ≡ m = omega (arith, kept-begin g e k) in
+          rw (c, h k)
+      go false false f₂ true f₃ t₄ f₄ =
+          let k : e .kind ≡ 3 = eqb-true (e .kind) 3 f₃ in
+          rw (kept-other g e (λ z. omega arith))
+      go false false f₂ false f₃ true f₄ =
+          let k : e .kind ≡ 4 = eqb-true (e .kind) 4 f₄ in
+          let n = added-none g p e (λ z. omega arith) (λ z. omega arith) in
+          let c : kept g e + m ≡ g .count = simp (← n) (omega (arith, kept-other g e (λ z. omega arith))) in
+          rw c
+      go false false f₂ false f₃ false f₄ = refl
+
+  module _ (h : Possible g p e s) where
+    good : pick (eventGood e) (stateGood g (length s)) false ≡ true
+    good = rw (h .2, h .3)
+
+    number-full : length s < kept g e + length (added g p e) → numberOf g p e s ≡ 20
+    unfolding numberOf
+    number-full k = judged-in p _ _ (h .0) (h .1) good ∙ rw (lt-ltb (length s) (kept g e + length (added g p e)) k)
+
+    pub number-done : kept g e + length (added g p e) ≤ length s → numberOf g p e s ≡ 0
+    unfolding numberOf
+    number-done k = judged-in p _ _ (h .0) (h .1) good ∙ rw (le-ltb (length s) (kept g e + length (added g p e)) k)
+
+    pub kept-inside : kept g e ≤ length s
+    kept-inside = omega (arith, kept-least g e, state-inside g (length s) (h .3) .0)
+
+    pub full : length s < kept g e + length (added g p e) → Meets g p e s (outcome 20 fresh) s
+    unfolding gatherOf storeOf
+    full k = simp (number-full k) (refl, refl)
+
+  pub taken : (g′ : Gathering) (s′ : List ℕ) → numberOf g p e s ≡ 0 → g′ ≡ next g p e → s′ ≡ placedAt s (kept g e) (added g p e)
+      → Meets g p e s (outcome 0 g′) s′
+  unfolding gatherOf storeOf
+  taken g′ s′ z f k = simp z (ap (outcome 0) f, k)
+
+  -- the same as the code has it: bytes that are kept, and the part that is added
+  module _ (h : Possible g p e s) (k a n : ℕ) (f : k ≡ kept g e) (d : Adds g p e a n) where
+    added-length : length (added g p e) ≡ n
+    added-length = ap length (sym (d .0)) ∙ part-length a n p (omega arith)
+
+    pub apply-full : (g′ : Gathering) → g′ ≡ fresh → length s - k < n → Meets g p e s (outcome 20 g′) s
+    apply-full g′ i j = rw i (full h (omega (arith, added-length, kept-inside h)))
+
+    pub apply-done : (g′ : Gathering) (xs s′ : List ℕ) → n ≤ length s - k → xs ≡ partAt a n p → s′ ≡ placedAt s k xs
+        → g′ ≡ moved g (e .kind) (k + n) a
+        → Meets g p e s (outcome 0 g′) s′
+    apply-done g′ xs s′ j x y m =
+        taken g′ s′ (number-done h (omega (arith, added-length, kept-inside h)))
+        (m ∙ (rw (f, ← added-length) (moved-next a (d .2)))) (y ∙ rw (f, x, d .0))

@@ -1,0 +1,145 @@
+-- The gathering store: what a call answers, the state after it, and the store's bytes.
+use mathlib.Core.Path.{_≡_}
+use mathlib.Core.Bool.{Bool, true, false}
+use mathlib.Core.List.{List, [], _∷_}
+use Prim.Native.Nat.{ℕ, _+_}
+use lib.Dec.{eqb, leb, ltb}
+use lib.ListN.{length, getD}
+use Rattle.bits.specs.Answer.{Answer, answer, pick, placedAt, partAt}
+use Rattle.bits.specs.Numbers.{done, wrongLength, noSync, outOfRange, storeFull}
+use Rattle.log.specs.declared.Event.{Event}
+use Rattle.log.specs.Entry.{startStream, beginPacket, continuePacket, endPacket, continuityError}
+use Rattle.gather.specs.declared.Lies.{Lies}
+use Rattle.gather.specs.declared.Lies.the-variants.{Packet, Store}
+use Rattle.gather.specs.declared.Gathering.{Gathering}
+use Rattle.gather.specs.declared.Verdict.{Verdict}
+use Rattle.gather.specs.declared.Gathered.{Gathered}
+use Rattle.gather.specs.declared.HeldRead.{HeldRead}
+use Rattle.gather.specs.Belongs.{eventBytes, ownPlace, ownBytes}
+
+abbrev pub gathering : Bool → ℕ → Lies → Gathering
+gathering o n l = record { opened = o; count = n; lies = l }
+
+-- no unit, no bytes: before the first event, after a break and after 20
+abbrev pub fresh : Gathering
+fresh = gathering false 0 Store
+
+-- ---- what cannot be
+
+-- 1 and 2, then 14 where the test fails, else what is asked
+abbrev pub judged : List ℕ → Bool → ℕ → ℕ
+judged p t n =
+    pick (eqb (length p) 188)
+    (pick (eqb (getD p 0 0) 0x47)
+    (pick t n outOfRange)
+    noSync)
+    wrongLength
+
+-- an event has a kind 1 to 5, and its part lies in a packet
+unfoldable pub eventGood : Event → Bool
+eventGood e = pick (leb startStream (e .kind)) (pick (leb (e .kind) continuityError) (leb (e .place + e .length) 188) false) false
+
+-- so many bytes of a state lie within a packet, where they lie there
+abbrev pub inPacket : Lies → ℕ → Bool
+inPacket (Packet a) n = leb (a + n) 188
+inPacket Store n = true
+
+-- the bytes of a state lie in a store of so many bytes, and in the packet where they lie there
+unfoldable pub stateGood : Gathering → ℕ → Bool
+stateGood g room = pick (leb (g .count) room) (inPacket (g .lies) (g .count)) false
+
+-- ---- what an event does
+
+abbrev pub is : ℕ → Event → Bool
+is k e = eqb (e .kind) k
+
+-- how many bytes stay before those that the event adds: a begin opens a unit anew
+abbrev pub kept : Gathering → Event → ℕ
+kept g e = pick (is beginPacket e) 0 (g .count)
+
+-- the bytes that it adds: a begin those that belong to its unit, a continue all that it names where a unit is open
+unfoldable pub added : Gathering → List ℕ → Event → List ℕ
+added g p e =
+    pick (is beginPacket e) (ownBytes (eventBytes p e))
+    (pick (is continuePacket e) (pick (g .opened) (eventBytes p e) []) [])
+
+-- the state after it
+unfoldable pub next : Gathering → List ℕ → Event → Gathering
+next g p e =
+    pick (is startStream e) g
+    (pick (is beginPacket e) (gathering true (length (added g p e)) (Packet (e .place + ownPlace (eventBytes p e))))
+    (pick (is continuePacket e) (gathering (g .opened) (g .count + length (added g p e)) Store)
+    (pick (is endPacket e) (gathering false (g .count) Store)
+    fresh)))
+
+-- ---- a call
+
+-- 1, 2, 14, 20 in this order: 20 where the unit would exceed the store
+unfoldable pub numberOf : Gathering → List ℕ → Event → List ℕ → ℕ
+numberOf g p e s =
+    judged p (pick (eventGood e) (stateGood g (length s)) false)
+    (pick (ltb (length s) (kept g e + length (added g p e))) storeFull done)
+
+-- an answer's number and the state after it
+pub record Outcome : Type 0 where
+  pub number : ℕ
+  pub gathering : Gathering
+
+abbrev pub outcome : ℕ → Gathering → Outcome
+outcome n g = record { number = n; gathering = g }
+
+abbrev pub verdictNumber : Verdict → ℕ
+verdictNumber Verdict.Done = done
+verdictNumber Verdict.WrongLength = wrongLength
+verdictNumber Verdict.NoSync = noSync
+verdictNumber Verdict.OutOfRange = outOfRange
+verdictNumber Verdict.StoreFull = storeFull
+
+abbrev pub given : Gathered → Outcome
+given r = outcome (verdictNumber (r .verdict)) (r .gathering)
+
+-- on 20 the unit counts 0 bytes and is closed; on any other refusal the state stays
+abbrev pub after : ℕ → Gathering → Gathering → Gathering
+after n g′ g = pick (eqb n done) g′ (pick (eqb n storeFull) fresh g)
+
+unfoldable pub gatherOf : Gathering → List ℕ → Event → List ℕ → Outcome
+gatherOf g p e s = outcome (numberOf g p e s) (after (numberOf g p e s) (next g p e) g)
+
+-- in the store only the added bytes change; on a refusal nothing does
+unfoldable pub storeOf : Gathering → List ℕ → Event → List ℕ → List ℕ
+storeOf g p e s = pick (eqb (numberOf g p e s) done) (placedAt s (kept g e) (added g p e)) s
+
+-- ---- the bytes so far
+
+abbrev pub givenHeld : HeldRead → ℕ
+givenHeld HeldRead.Done = done
+givenHeld HeldRead.WrongLength = wrongLength
+givenHeld HeldRead.NoSync = noSync
+givenHeld HeldRead.OutOfRange = outOfRange
+
+unfoldable pub readOf : Gathering → List ℕ → List ℕ → ℕ
+readOf g p s = judged p (stateGood g (length s)) done
+
+-- out of the packet after a begin, otherwise out of the store
+abbrev pub lying : Lies → ℕ → List ℕ → List ℕ → List ℕ
+lying (Packet a) n p s = partAt a n p
+lying Store n p s = partAt 0 n s
+
+-- empty on a refusal
+unfoldable pub bytesOf : Gathering → List ℕ → List ℕ → List ℕ
+bytesOf g p s = pick (eqb (readOf g p s) done) (lying (g .lies) (g .count) p s) []
+
+-- ---- cited by private functions alone
+
+-- neither 1, 2 nor 14
+abbrev pub Possible : Gathering → List ℕ → Event → List ℕ → Type 0
+Possible g p e s = (length p ≡ 188) × (getD p 0 0 ≡ 0x47) × (eventGood e ≡ true) × (stateGood g (length s) ≡ true)
+
+-- the state after an event of a kind, by the unit's bytes with those that are added, and the place in the packet where these stand
+unfoldable pub moved : Gathering → ℕ → ℕ → ℕ → Gathering
+moved g k n a =
+    pick (eqb k startStream) g
+    (pick (eqb k beginPacket) (gathering true n (Packet a))
+    (pick (eqb k continuePacket) (gathering (g .opened) n Store)
+    (pick (eqb k endPacket) (gathering false n Store)
+    fresh)))

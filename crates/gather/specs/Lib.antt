@@ -1,0 +1,3 @@
+pub mod Belongs
+pub mod Gather
+pub mod Units

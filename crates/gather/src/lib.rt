@@ -1,0 +1,323 @@
+// The gathering store: the bytes of a unit, event by event.
+ghost use mathlib.Core.Path.{_≡_};
+ghost use mathlib.Core.Bool.{true, false};
+ghost use Prim.Native.Nat.{_+_, _≤_};
+ghost use lib.Dec.{eqb};
+ghost use lib.ListN.{length};
+ghost use Rattle.bits.specs.Answer.{pick, partAt};
+ghost use Rattle.log.specs.Entry.{beginPacket};
+ghost use Rattle.gather.specs.Belongs.{eventBytes, ownPlace, ownBytes};
+ghost use Rattle.gather.specs.Gather.{gathering, fresh, eventGood, inPacket, stateGood, added, Possible, moved};
+ghost use Rattle.gather.specs.Gather.{given, gatherOf, storeOf, readOf, givenHeld, bytesOf};
+use bits::copy_at;
+use bits::part;
+use contents::PartRead;
+use log::Event;
+use pes::ContentsRead;
+
+// Where the bytes so far lie: in the packet of the begin, at a place, or in the store, from its start on. After a begin they stand in
+// the store too.
+pub enum Lies {
+    Packet(usize),
+    Store,
+}
+
+pub struct Gathering {
+    pub opened: bool,
+    pub count: usize,
+    pub lies: Lies,
+}
+
+pub enum Verdict {
+    Done,
+    WrongLength,
+    NoSync,
+    OutOfRange,
+    StoreFull,
+}
+
+// What a call gives, and the state after it: 20 apart, a refusal leaves the state.
+pub struct Gathered {
+    pub verdict: Verdict,
+    pub gathering: Gathering,
+}
+
+pub enum HeldRead {
+    Done,
+    WrongLength,
+    NoSync,
+    OutOfRange,
+}
+
+impl Gathering {
+    // Before the first event: no unit, no bytes.
+    pub fn new() -> Gathering
+        ensures { λ r. ⌜ r ≡ fresh ⌝ }
+    {
+        Gathering {
+            opened: false,
+            count: 0,
+            lies: Lies::Store,
+        }
+    }
+}
+
+// The kinds of events that are told apart.
+const START_STREAM: u8 = 1;
+
+const BEGIN_PACKET: u8 = 2;
+
+const CONTINUE_PACKET: u8 = 3;
+
+const END_PACKET: u8 = 4;
+
+const CONTINUITY_ERROR: u8 = 5;
+
+// ---- which bytes belong to a unit
+
+// A part of a slice, by place and length.
+struct Part {
+    place: usize,
+    length: usize,
+}
+
+// Of the bytes of a begin those that belong to its unit: what follows the header, and none where that is refused.
+fn belongs(bytes: &[u8]) -> Part
+    ensures { λ r. ⌜ (r .place ≡ ownPlace (now (bytes .entry)))
+        × (partAt (r .place) (r .length) (now (bytes .entry)) ≡ ownBytes (now (bytes .entry)))
+        × (r .place + r .length ≤ length (now (bytes .entry))) ⌝ }
+{
+    match pes::contents(bytes) {
+        ContentsRead::ShortHeader => Part {
+            place: 0,
+            length: 0,
+        },
+        ContentsRead::BadStartCode => Part {
+            place: 0,
+            length: 0,
+        },
+        ContentsRead::Payload { place, length } => Part { place, length },
+        ContentsRead::Parsed { place, length: _ } => {
+            let PartRead::Done { place: at, length } = contents::payload_at(&bytes[place..]) else {
+                return Part {
+                    place: 0,
+                    length: 0,
+                };
+            };
+            Part {
+                place: place + at,
+                length,
+            }
+        }
+    }
+}
+
+// ---- what cannot be
+
+// An event has a kind 1 to 5, and its part lies in a packet.
+fn event_good(event: Event) -> bool
+    ensures { λ r. ⌜ r ≡ eventGood event ⌝ }
+{
+    if event.kind < START_STREAM {
+        return false;
+    }
+    if CONTINUITY_ERROR < event.kind {
+        return false;
+    }
+    event.place as usize + event.length as usize <= 188
+}
+
+// So many bytes of a state lie within a packet, where they lie there.
+fn in_packet(lies: Lies, count: usize) -> bool
+    ensures { λ r. ⌜ r ≡ inPacket lies count ⌝ }
+{
+    match lies {
+        Lies::Packet(place) => {
+            if 188 < place {
+                return false;
+            }
+            count <= 188 - place
+        }
+        Lies::Store => true,
+    }
+}
+
+// The bytes of a state lie in the store, and in the packet where they lie there.
+fn state_good(g: Gathering, room: usize) -> bool
+    ensures { λ r. ⌜ r ≡ stateGood g room ⌝ }
+{
+    let count = g.count;
+    let lies = g.lies;
+    if room < count {
+        return false;
+    }
+    in_packet(lies, count)
+}
+
+// ---- what an event does
+
+// How many bytes stay before those that the event adds: a begin opens a unit anew.
+fn keeps(g: Gathering, kind: u8) -> usize
+    ensures { λ r. ⌜ r ≡ pick (eqb kind beginPacket) 0 (g .count) ⌝ }
+{
+    if kind == BEGIN_PACKET {
+        return 0;
+    }
+    g.count
+}
+
+// Where in the packet the bytes stand that the event adds.
+fn adds(g: Gathering, packet: &[u8], event: Event) -> Part
+    requires { ⌜ (length (now packet) ≡ 188) × (eventGood event ≡ true) ⌝ }
+    ensures { λ r. ⌜ (partAt (r .place) (r .length) (now (packet .entry)) ≡ added g (now (packet .entry)) event)
+        × (r .place + r .length ≤ 188)
+        × (event .kind ≡ beginPacket → r .place ≡ event .place + ownPlace (eventBytes (now (packet .entry)) event)) ⌝ }
+{
+    let place = event.place as usize;
+    let length = event.length as usize;
+    if event.kind == BEGIN_PACKET {
+        let own = belongs(part(packet, place, length));
+        return Part {
+            place: place + own.place,
+            length: own.length,
+        };
+    }
+    if event.kind == CONTINUE_PACKET {
+        let opened = g.opened;
+        if opened {
+            return Part { place, length };
+        }
+    }
+    Part {
+        place: 0,
+        length: 0,
+    }
+}
+
+// No open unit, and so many bytes of the last one.
+fn closed(count: usize) -> Gathering
+    ensures { λ r. ⌜ r ≡ gathering false count Lies.Store ⌝ }
+{
+    Gathering {
+        opened: false,
+        count,
+        lies: Lies::Store,
+    }
+}
+
+// The state after it, with so many bytes in the unit, of which a begin's stand at a place of the packet.
+fn moves(g: Gathering, kind: u8, count: usize, place: usize) -> Gathering
+    ensures { λ r. ⌜ r ≡ moved g kind count place ⌝ }
+{
+    if kind == START_STREAM {
+        return g;
+    }
+    if kind == BEGIN_PACKET {
+        return Gathering {
+            opened: true,
+            count,
+            lies: Lies::Packet(place),
+        };
+    }
+    if kind == CONTINUE_PACKET {
+        return Gathering {
+            opened: g.opened,
+            count,
+            lies: Lies::Store,
+        };
+    }
+    if kind == END_PACKET {
+        return closed(count);
+    }
+    closed(0)
+}
+
+// An event that can be: 20 is what is left to refuse it.
+fn apply(g: Gathering, packet: &[u8], event: Event, store: &mut [u8]) -> Gathered
+    requires { ⌜ Possible g (now packet) event (now store) ⌝ }
+    ensures { λ r. ⌜ (given r ≡ gatherOf g (now (packet .entry)) event (now (store .entry)))
+        × (now (store .exit) ≡ storeOf g (now (packet .entry)) event (now (store .entry))) ⌝ }
+{
+    let kind = event.kind;
+    let kept = keeps(g, kind);
+    let added = adds(g, packet, event);
+    let place = added.place;
+    let length = added.length;
+    if store.len() - kept < length {
+        return Gathered {
+            verdict: Verdict::StoreFull,
+            gathering: closed(0),
+        };
+    }
+    let count = kept + length;
+    copy_at(part(packet, place, length), store, kept);
+    Gathered {
+        verdict: Verdict::Done,
+        gathering: moves(g, kind, count, place),
+    }
+}
+
+// One event of the packet.
+pub fn gather(g: Gathering, packet: &[u8], event: Event, store: &mut [u8]) -> Gathered
+    ensures { λ r. ⌜ (given r ≡ gatherOf g (now (packet .entry)) event (now (store .entry)))
+        × (now (store .exit) ≡ storeOf g (now (packet .entry)) event (now (store .entry))) ⌝ }
+{
+    if packet.len() != 188 {
+        return Gathered {
+            verdict: Verdict::WrongLength,
+            gathering: g,
+        };
+    }
+    if packet[0] != 71 {
+        return Gathered {
+            verdict: Verdict::NoSync,
+            gathering: g,
+        };
+    }
+    if !event_good(event) {
+        return Gathered {
+            verdict: Verdict::OutOfRange,
+            gathering: g,
+        };
+    }
+    if !state_good(g, store.len()) {
+        return Gathered {
+            verdict: Verdict::OutOfRange,
+            gathering: g,
+        };
+    }
+    apply(g, packet, event, store)
+}
+
+// ---- the bytes so far
+
+// Whether the bytes so far can be read out: 1, 2 and 14, also where they lie in the store.
+pub fn held(g: Gathering, packet: &[u8], store: &[u8]) -> HeldRead
+    ensures { λ r. ⌜ givenHeld r ≡ readOf g (now (packet .entry)) (now (store .entry)) ⌝ }
+{
+    if packet.len() != 188 {
+        return HeldRead::WrongLength;
+    }
+    if packet[0] != 71 {
+        return HeldRead::NoSync;
+    }
+    if state_good(g, store.len()) {
+        return HeldRead::Done;
+    }
+    HeldRead::OutOfRange
+}
+
+// The bytes so far: a part of the packet after a begin, otherwise of the store.
+pub fn bytes<'a>(g: Gathering, packet: &'a [u8], store: &'a [u8]) -> &'a [u8]
+    ensures { λ r. ⌜ now r ≡ bytesOf g (now (packet .entry)) (now (store .entry)) ⌝ }
+{
+    let lies = g.lies;
+    let count = g.count;
+    let HeldRead::Done = held(g, packet, store) else {
+        return &packet[0..0];
+    };
+    match lies {
+        Lies::Packet(place) => part(packet, place, count),
+        Lies::Store => part(store, 0, count),
+    }
+}
