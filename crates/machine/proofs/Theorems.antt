@@ -2,19 +2,20 @@
 -- Assumes nothing.
 use mathlib.Core.Path.{_≡_, refl, sym, ap, _∙_}
 use mathlib.Core.Bool.{Bool, true, false}
-use mathlib.Core.List.{List, [], _∷_, _++_}
+use mathlib.Core.List.{List, [], _∷_, _++_, map, map-append}
 use Prim.Native.Nat.{ℕ, zero, suc, _+_, _-_, _*_, _%_, _^_, _≤_, _<_}
 use native.Mathlib.Omega.{arith}
 use native.Mathlib.Nat.{le-trans}
 use lib.ListN.{length, getD, length-append}
 use lib.Dec.{eqb, ltb}
-use lib.Seq.{sets}
-use borrow.Author.Tests.{eq-eqb, ltb-false, eqb-true}
+use lib.Seq.{sets, length-sets}
+use borrow.Author.Tests.{eq-eqb, le-ltb, ltb-false, eqb-true}
 use Rattle.bits.specs.Answer.{Answer, answer, pick, All}
+use Rattle.bits.proofs.Fields.{field-below}
 use Rattle.bits.proofs.Tests.{one-answer}
 use Rattle.packet.specs.Packet.{counterField, contentAt, payloadThere}
 use Rattle.log.specs.declared.Event.{Event}
-use Rattle.log.specs.Entry.{beginPacket, endPacket, event, eventValues, entriesBytes, readEntry}
+use Rattle.log.specs.Entry.{beginPacket, endPacket, continuityError, event, eventValues, entriesBytes, readEntry}
 use Rattle.log.proofs.Laws.{sets-append, entries-append, length-entries}
 use Rattle.log.proofs.Theorems.{Proper, nth, all-append, all-nth, reads-back}
 use Rattle.machine.specs.declared.Phase.{Phase}
@@ -27,8 +28,8 @@ use Rattle.machine.specs.declared.Verdict.{Verdict}
 use Rattle.machine.specs.declared.Verdict.the-variants.{Done, WrongLength, NoSync, OutOfRange, IndexFull, LogFull}
 use Rattle.machine.specs.Events.{State, state, startFlag, headAccepted, continuous, broken, settled, opened, begun, continued, rest, eventsOf, phaseAfter, next, run}
 use Rattle.machine.specs.Step.{stateOf, eventsAt, numberOf, advanced, other, wrongLast, Outcome, verdictNumber, given, stepOf, logOf}
-use Rattle.machine.specs.Run.{Ran, runOf, startStreams, startFlags}
-use Rattle.machine.proofs.Laws.{payload-below}
+use Rattle.machine.specs.Run.{Ran, runOf, Whole, Sound, shifted, startStreams, startFlags}
+use Rattle.machine.proofs.Laws.{payload-below, no-refusal}
 
 -- ---- one answer only
 
@@ -239,6 +240,99 @@ module _ (m : Machine) (p l : List ℕ) (h : numberOf m p l ≡ 0) where
       let q = took in
       simp (eq-eqb (numberOf m p l) 0 h)
       (reads-back es l (m .place) k (q .0) (omega arith) j (all-nth es k (proper-events (m .taken) p t (stateOf m)) j))
+
+-- ---- a run with room in its log and its index is not refused, and every entry that it writes reads back
+
+counter-below : (p : List ℕ) → counterField p ≤ 15
+unfolding counterField
+counter-below p = omega (arith, field-below p 28 4)
+
+pub run-taken : (ps : List (List ℕ)) (m : Machine) (l : List ℕ) → Sound m l → All Whole ps → m .taken + length ps ≤ 4_294_967_295
+    → m .place + 8 * length (run (m .taken) (stateOf m) ps) ≤ length l
+    → (runOf m ps l .answer .number ≡ 0)
+    × (runOf m ps l .answer .machine .taken ≡ m .taken + length ps)
+    × (runOf m ps l .answer .machine .place ≡ m .place + 8 * length (run (m .taken) (stateOf m) ps))
+unfolding stepOf logOf advanced next run
+run-taken [] m l s w t r = omega arith
+run-taken (p ∷ ps) m l s w t r =
+    let es = eventsAt m p in
+    let n = length-append es (run (suc (m .taken)) (next (stateOf m) p) ps) in
+    let z : numberOf m p l ≡ 0
+    = no-refusal m p l (w .0 .0) (w .0 .1) (s .last-good) (s .place-fits) (s .place-whole) (λ e. omega arith) es refl
+    (omega (arith, s .place-fits)) in
+    let l′ = sets l (m .place) (entriesBytes es) in
+    let k = length-sets l (m .place) (entriesBytes es) in
+    let s′ : Sound (advanced m p) l′
+    = record {
+      last-good = le-ltb 15 (counterField p) (counter-below p);
+      place-fits = omega arith;
+      place-whole = omega (arith, s .place-whole);
+    } in
+    let ih = run-taken ps (advanced m p) l′ s′ (w .1) (omega arith) (omega arith) in
+    simp z (ih .0, omega (arith, ih .1), omega (arith, ih .2))
+
+proper-run : (ps : List (List ℕ)) (i : ℕ) (s : State) → i + length ps ≤ 2 ^ 32 → All Proper (run i s ps)
+unfolding run
+proper-run [] i s h = tt
+proper-run (p ∷ ps) i s h =
+    all-append (eventsOf i s p) (run (suc i) (next s p) ps)
+    (proper-events i p (omega arith) s) (proper-run ps (suc i) (next s p) (omega arith))
+
+pub run-reads-back : (ps : List (List ℕ)) (m : Machine) (l : List ℕ) → Sound m l → All Whole ps → m .taken + length ps ≤ 4_294_967_295
+    → m .place + 8 * length (run (m .taken) (stateOf m) ps) ≤ length l
+    → (k : ℕ) → k < length (run (m .taken) (stateOf m) ps)
+    → readEntry (runOf m ps l .log) (m .place + 8 * k) ≡ answer 0 (eventValues (nth (run (m .taken) (stateOf m) ps) k))
+run-reads-back ps m l s w t r k j =
+    let es = run (m .taken) (stateOf m) ps in
+    rw (run-written m ps l (run-taken ps m l s w t r .0))
+    (reads-back es l (m .place) k (s .place-whole) r j (all-nth es k (proper-run ps (m .taken) (stateOf m) (omega arith)) j))
+
+-- ---- the index of the first packet shifts every event's, and nothing else
+
+shift-nested : (d : ℕ) (a b : Bool) (e : Event)
+    → pick a (pick b (shifted d e ∷ []) []) [] ≡ map (shifted d) (pick a (pick b (e ∷ []) []) [])
+shift-nested d true true e = refl
+shift-nested d true false e = refl
+shift-nested d false b e = refl
+
+module _ (d i : ℕ) (p : List ℕ) where
+  shift-begun : begun (d + i) p ≡ map (shifted d) (begun i p)
+  unfolding begun
+  shift-begun = shift-nested d (payloadThere p) (headAccepted _) _
+
+  shift-continued : (ph : Phase) → continued ph (d + i) p ≡ map (shifted d) (continued ph i p)
+  unfolding continued
+  shift-continued Begin = refl
+  shift-continued Started = shift-nested d (payloadThere p) true _
+  shift-continued IgnoreRest = refl
+
+  shift-opened : (ph : Phase) → opened ph (d + i) ≡ map (shifted d) (opened ph i)
+  shift-opened Begin = refl
+  shift-opened Started = refl
+  shift-opened IgnoreRest = refl
+
+  shift-rest : (s : Bool) (ph : Phase)
+      → pick s (opened ph (d + i) ++ begun (d + i) p) (continued ph (d + i) p)
+      ≡ map (shifted d) (pick s (opened ph i ++ begun i p) (continued ph i p))
+  shift-rest true ph = rw (shift-opened ph, shift-begun) (sym (map-append (shifted d) (opened ph i) (begun i p)))
+  shift-rest false ph = shift-continued ph
+
+  shift-all : (c s : Bool) (ph : Phase) → broken c (d + i) ++ pick s (opened ph (d + i) ++ begun (d + i) p) (continued ph (d + i) p)
+      ≡ map (shifted d) (broken c i ++ pick s (opened ph i ++ begun i p) (continued ph i p))
+  shift-all true s ph = shift-rest s ph
+  shift-all false s ph = ap (λ (t : List Event). event continuityError (d + i) 0 0 ∷ t) (shift-rest s ph)
+
+  shift-events : (s : State) → eventsOf (d + i) s p ≡ map (shifted d) (eventsOf i s p)
+  unfolding eventsOf
+  shift-events s = shift-all (continuous (s .last) p) (startFlag p) (settled (continuous (s .last) p) (s .phase))
+
+pub run-shift : (d i : ℕ) (s : State) (ps : List (List ℕ)) → run (d + i) s ps ≡ map (shifted d) (run i s ps)
+unfolding run
+run-shift d i s [] = refl
+run-shift d i s (p ∷ ps) =
+    let e : suc (d + i) ≡ d + suc i = omega arith in
+    rw (shift-events d i p s, e, run-shift d (suc i) (next s p) ps)
+    (sym (map-append (shifted d) (eventsOf i s p) (run (suc i) (next s p) ps)))
 
 -- ---- a break gives no EndPacket for the unit that it cut off
 

@@ -1,0 +1,123 @@
+-- That the premises of the theorems can be met, and that the premise of `least` is needed.
+-- Assumes nothing.
+use mathlib.Core.Path.{_≡_, refl}
+use mathlib.Core.Bool.{Bool, true, false}
+use mathlib.Core.List.{List, [], _∷_, _++_}
+use Prim.Native.Nat.{ℕ}
+use native.Mathlib.Omega.{arith}
+use lib.ListN.{length, replicate}
+use Rattle.bits.specs.Answer.{partOf}
+use Rattle.bits.specs.Field.{bit, field}
+use Rattle.pes.specs.Stream.{parsedId}
+use Rattle.pes.specs.Head.{headed, idOf}
+use Rattle.packet.specs.Packet.{payloadFlag, adaptationFlag, contentAt, payloadThere}
+use Rattle.contents.specs.Contents.{guarded, flagged, readPtsDts, dataLength, timesSize, escrAt, rateAt, trickAt, copyInfoAt, crcAt, fieldsEnd, payloadAt}
+use Rattle.log.specs.declared.Event.{Event}
+use Rattle.log.specs.Entry.{event, beginPacket}
+use Rattle.machine.specs.declared.Phase.the-variants.{Begin}
+use Rattle.machine.specs.declared.Last.the-variants.{Nothing}
+use Rattle.machine.specs.Events.{state, startFlag, headAccepted, continuous, begun, eventsOf, run}
+use Rattle.gather.specs.Belongs.{eventBytes, belongs, ownBytes}
+use Rattle.writer.specs.declared.Route.{Route}
+use Rattle.writer.specs.declared.Times.{Times}
+use Rattle.writer.specs.declared.Times.the-variants.{Untimed, Pts}
+use Rattle.writer.specs.declared.Escr.{Escr}
+use Rattle.writer.specs.declared.Rate.{Rate}
+use Rattle.writer.specs.declared.Byte.{Byte}
+use Rattle.writer.specs.declared.Crc.{Crc}
+use Rattle.writer.specs.declared.Unit.{Unit}
+use Rattle.writer.specs.Unit.{dataOf, statedLength, countOf}
+use Rattle.writer.specs.Writer.{routeTests, unitTests, sizeTests}
+use Rattle.capacity.specs.Reads.{bytesAt, bytesOfAll, upToBegin, segment, segments, HasFields, Delivers}
+use Rattle.capacity.specs.Demand.{Permitted}
+
+abbrev unit : ℕ → Bool → Times → Unit
+unit i b t =
+    record {
+      id = i;
+      bounded = b;
+      priority = false;
+      alignment = false;
+      copyright = false;
+      original = false;
+      times = t;
+      escr = Escr.Absent;
+      rate = Rate.Absent;
+      trick = Byte.Absent;
+      copy = Byte.Absent;
+      crc = Crc.Absent;
+    }
+
+abbrev way : Route
+way = record { pid = 256; counter = 15 }
+
+-- the longest bounded unit with a PTS
+pub permitted-some : Permitted way (unit 0xE0 true (Pts 90_000)) 65_527
+unfolding routeTests unitTests sizeTests statedLength dataOf parsedId
+permitted-some =
+    record {
+      route-good = refl;
+      unit-good = refl;
+      size-good = refl;
+      id-byte = omega arith;
+      trick-byte = omega arith;
+      crc-word = omega arith;
+    }
+
+-- with a bare id the payload begins right after the head: one packet has 178 bytes of it, for which the count is two
+abbrev bare : Unit
+bare = unit 0xBC true Untimed
+
+abbrev carries : List ℕ
+carries = 0x80 ∷ 0 ∷ 0 ∷ replicate 175 0
+
+abbrev packet : List ℕ
+packet = 0x47 ∷ 0x40 ∷ 0 ∷ 0x10 ∷ 0 ∷ 0 ∷ 1 ∷ 0xBC ∷ 0 ∷ 0 ∷ carries
+
+abbrev begin : Event
+begin = event beginPacket 0 4 184
+
+bare-one : segments (run 0 (state Begin Nothing) (packet ∷ [])) ≡ segment begin [] ∷ []
+unfolding segments upToBegin run eventsOf begun continuous startFlag headAccepted payloadThere payloadFlag contentAt adaptationFlag headed bit field
+bare-one = refl
+
+bare-bytes : bytesAt (packet ∷ []) begin ≡ 0 ∷ 0 ∷ 1 ∷ 0xBC ∷ 0 ∷ 0 ∷ carries
+unfolding bytesAt eventBytes
+bare-bytes = refl
+
+bare-fields : HasFields bare (0 ∷ 0 ∷ 1 ∷ 0xBC ∷ 0 ∷ 0 ∷ carries)
+unfolding headed idOf guarded flagged readPtsDts dataLength timesSize escrAt rateAt trickAt copyInfoAt crcAt fieldsEnd payloadAt bit field
+bare-fields =
+    record {
+      head = refl;
+      id = refl;
+      accepted = refl;
+      priority = refl;
+      alignment = refl;
+      copyright = refl;
+      original = refl;
+      times = refl;
+      escr = refl;
+      rate = refl;
+      trick = refl;
+      copy = refl;
+      crc = refl;
+    }
+
+bare-payload : ownBytes (0 ∷ 0 ∷ 1 ∷ 0xBC ∷ 0 ∷ 0 ∷ carries) ++ [] ≡ carries
+unfolding ownBytes belongs partOf parsedId headed idOf bit field
+bare-payload = refl
+
+pub bare-in-one : Delivers bare carries (state Begin Nothing) (packet ∷ [])
+unfolding bytesOfAll
+bare-in-one =
+    record {
+      packets = ((refl, refl), tt);
+      segment-of = segment begin [];
+      one = bare-one;
+      gives = record { header = rw bare-bytes bare-fields; payload-joined = rw bare-bytes bare-payload };
+    }
+
+pub bare-counts-two : countOf bare (length carries) ≡ 2
+unfolding countOf dataOf
+bare-counts-two = refl

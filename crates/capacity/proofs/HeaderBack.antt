@@ -1,0 +1,398 @@
+-- What is read from a header that the writer makes: every field as given, and the payload after it.
+-- Assumes nothing.
+use mathlib.Core.Path.{_≡_, refl, sym, ap, ap₂, _∙_}
+use mathlib.Core.Bool.{Bool, true, false}
+use mathlib.Core.List.{List, [], _∷_, _++_, append-assoc}
+use Prim.Native.Nat.{ℕ, _+_, _-_, _*_, _/_, _%_, _^_, _≤_, _<_}
+use native.Mathlib.Omega.{arith}
+use lib.ListN.{length, take, drop, getD, length-append, length-drop}
+use lib.Seq.{drop-at, drop-drop, take-all}
+use borrow.Author.Tests.{le-ltb, eq-eqb, ne-eqb}
+use Rattle.bits.specs.Answer.{Answer, answer, truth, partOf}
+use Rattle.bits.specs.Field.{bit, field}
+use Rattle.bits.specs.Pack.{Part, joined, bytesOf}
+use Rattle.bits.proofs.Fields.{field-one, field-split, field-left, field-drop, bit-left, bit-below, in-byte}
+use Rattle.bits.proofs.Packs.{length-bytesOf}
+use Rattle.timestamp.specs.Stamp.{readStamp, stampValue, stampBytes}
+use Rattle.timestamp.proofs.Theorems.{read-back, stamp-length}
+use Rattle.pes.specs.Stream.{parsedId}
+use Rattle.pes.specs.Head.{headed, idOf, packetLength}
+use Rattle.contents.specs.Contents.{dataLength, timesSize, escrAt, rateAt, trickAt, copyInfoAt, crcAt, fieldsEnd, payloadAt, readFixed, readPtsDts, escrBase, escrExtension, readEscr, rateOf, readEsRate, readCopyInfo, readCrc, readExtension}
+use Rattle.contents.specs.Trick.{readRawTrick}
+use Rattle.contents.proofs.Laws.{Accepted, sound, field-off, field-on}
+use Rattle.gather.specs.Belongs.{belongs, ownBytes}
+use Rattle.writer.specs.declared.Times.{Times}
+use Rattle.writer.specs.declared.Times.the-variants.{Untimed, Pts, Both}
+use Rattle.writer.specs.declared.Escr.{Escr}
+use Rattle.writer.specs.declared.Unit.{Unit}
+use Rattle.writer.specs.Unit.{Field, absent, holds, rateField, byteField, crcField, timesFlags, escrFlag, fieldFlag, timesBytes, dataOf, statedLength}
+use Rattle.writer.specs.Packets.{headTable, timesImage, escrTable, escrImage, rateTable, trickTable, copyTable, crcTable, image, fieldsImage, headerImage}
+use Rattle.capacity.specs.Reads.{givenTimes, givenEscr, givenField, givenBit, contents, HasFields}
+use Rattle.capacity.specs.Demand.{atMost}
+use Rattle.capacity.proofs.Rows.{RowIn, RowFits, row-front}
+use Rattle.capacity.proofs.Permits.{TimesFit, EscrFits, UnitFits}
+
+-- ---- lists
+
+-- past a part of known length
+skip : (a b c : List ℕ) (at len : ℕ) → drop at c ≡ a ++ b → length a ≡ len → drop (at + len) c ≡ b
+skip a b c at len e l = sym (drop-drop len at c) ∙ (ap (drop len) e ∙ drop-at a b len l)
+
+-- an answer by its value
+given : {v w : ℕ} → v ≡ w → answer 0 (v ∷ []) ≡ answer 0 (w ∷ [])
+given e = ap (λ (v : ℕ). answer 0 (v ∷ [])) e
+
+-- ---- how long each field is
+
+times-length : (t : Times) → length (timesImage t) ≡ timesBytes t
+unfolding timesImage
+times-length Untimed = refl
+times-length (Pts p) = stamp-length 2 p
+times-length (Both p d) = omega (arith, length-append (stampBytes 3 p) (stampBytes 1 d), stamp-length 3 p, stamp-length 1 d)
+
+escr-length : (e : Escr) → length (escrImage e) ≡ 6 * escrFlag e
+unfolding escrImage
+escr-length Escr.Absent = refl
+escr-length (Escr.Present b e) = length-bytesOf 6 (joined (escrTable b e))
+
+image-length : (k : ℕ) (t : ℕ → List Part) (f : Field) → length (image k t f) ≡ k * fieldFlag f
+unfolding image
+image-length k t absent = omega arith
+image-length k t (holds v) = omega (arith, length-bytesOf k (joined (t v)))
+
+flag-small : (f : Field) → fieldFlag f ≤ 1
+flag-small absent = omega arith
+flag-small (holds v) = omega arith
+
+escr-small : (e : Escr) → escrFlag e ≤ 1
+escr-small Escr.Absent = omega arith
+escr-small (Escr.Present b e) = omega arith
+
+times-small : (t : Times) → (timesBytes t ≤ 10) × (timesFlags t ≤ 3)
+times-small Untimed = omega arith
+times-small (Pts p) = omega arith
+times-small (Both p d) = omega arith
+
+pub data-small : (u : Unit) → dataOf u ≤ 23
+unfolding dataOf
+data-small u =
+    omega (
+      arith,
+      times-small (u .times),
+      escr-small (u .escr),
+      flag-small (rateField (u .rate)),
+      flag-small (byteField (u .trick)),
+      flag-small (byteField (u .copy)),
+      flag-small (crcField (u .crc)),
+    )
+
+fields-length : (u : Unit) → length (fieldsImage u) ≡ dataOf u
+unfolding fieldsImage dataOf
+fields-length u =
+    simp (
+      length-append,
+      times-length (u .times),
+      escr-length (u .escr),
+      image-length 3 rateTable (rateField (u .rate)),
+      image-length 1 trickTable (byteField (u .trick)),
+      image-length 1 copyTable (byteField (u .copy)),
+      image-length 2 crcTable (crcField (u .crc)),
+    ) (omega arith)
+
+pub header-length : (u : Unit) (n : ℕ) → length (headerImage u n) ≡ 9 + dataOf u
+unfolding headerImage
+header-length u n =
+    let nine = bytesOf 9 (joined (headTable u n)) in
+    omega (arith, length-append nine (fieldsImage u), length-bytesOf 9 (joined (headTable u n)), fields-length u)
+
+-- ---- each field
+
+-- the first five bytes count
+stamp-front : (xs ys : List ℕ) → length xs ≡ 5 → readStamp (xs ++ ys) ≡ readStamp xs
+unfolding readStamp stampValue
+stamp-front xs ys h =
+    rw (
+      le-ltb (length (xs ++ ys)) 5 (omega (arith, length-append xs ys)),
+      le-ltb (length xs) 5 (omega arith),
+      bit-left xs ys 7 (omega arith),
+      bit-left xs ys 23 (omega arith),
+      bit-left xs ys 39 (omega arith),
+      field-left xs ys 4 3 (omega arith),
+      field-left xs ys 8 15 (omega arith),
+      field-left xs ys 24 15 (omega arith),
+    )
+
+stamp-read : (p v : ℕ) (xs rest : List ℕ) → v < 2 ^ 33 → xs ≡ stampBytes p v ++ rest → readStamp xs ≡ answer 0 (v ∷ [])
+stamp-read p v xs rest h e = ap readStamp e ∙ (stamp-front (stampBytes p v) rest (stamp-length p v) ∙ read-back p v h)
+
+-- the two bits of PTS_DTS_flags
+two-bits : (c : List ℕ) (t : Times) → field c 8 2 ≡ timesFlags t → bit c 8 * 2 + bit c 9 ≡ timesFlags t
+two-bits c t f = omega (arith, field-split c 8 1 1, field-one c 8, field-one c 9)
+
+-- the size that they say
+times-size : (c : List ℕ) (t : Times) → field c 8 2 ≡ timesFlags t → timesSize c ≡ timesBytes t
+unfolding timesSize
+times-size c Untimed f = simp (ne-eqb (bit c 8) 1 (omega (arith, two-bits c Untimed f)))
+times-size c (Pts p) f =
+    let e : bit c 8 ≡ 1 = omega (arith, two-bits c (Pts p) f, bit-below c 8, bit-below c 9) in
+    let g : bit c 9 ≡ 0 = omega (arith, two-bits c (Pts p) f) in
+    simp (e, g)
+times-size c (Both p d) f =
+    let e : bit c 8 ≡ 1 = omega (arith, two-bits c (Both p d) f, bit-below c 8, bit-below c 9) in
+    let g : bit c 9 ≡ 1 = omega (arith, two-bits c (Both p d) f) in
+    simp (e, g)
+
+module _ (c rest : List ℕ) (h : Accepted c) where
+  times-read : (t : Times) → TimesFit t → field c 8 2 ≡ timesFlags t → drop 3 c ≡ timesImage t ++ rest → readPtsDts c ≡ givenTimes t
+  unfolding readPtsDts timesImage
+  times-read Untimed k f e =
+      let b : bit c 8 ≡ 0 = omega (arith, two-bits c Untimed f) in
+      let d : bit c 9 ≡ 0 = omega (arith, two-bits c Untimed f) in
+      h .is _ ∙ simp (b, d)
+  times-read (Pts p) k f e =
+      let b : bit c 8 ≡ 1 = omega (arith, two-bits c (Pts p) f, bit-below c 8, bit-below c 9) in
+      let d : bit c 9 ≡ 0 = omega (arith, two-bits c (Pts p) f) in
+      h .is _ ∙ simp (b, d, stamp-read 2 p (drop 3 c) rest k e)
+  times-read (Both p q) k f e =
+      let b : bit c 8 ≡ 1 = omega (arith, two-bits c (Both p q) f, bit-below c 8, bit-below c 9) in
+      let d : bit c 9 ≡ 1 = omega (arith, two-bits c (Both p q) f) in
+      let e′ : drop 3 c ≡ stampBytes 3 p ++ (stampBytes 1 q ++ rest) = e ∙ append-assoc (stampBytes 3 p) (stampBytes 1 q) rest in
+      let e″ : drop 8 c ≡ stampBytes 1 q ++ rest = skip (stampBytes 3 p) _ c 3 5 e′ (stamp-length 3 p) in
+      h .is _ ∙ simp (b, d, stamp-read 3 p (drop 3 c) _ (k .0) e′, stamp-read 1 q (drop 8 c) rest (k .1) e″)
+
+  escr-read : (f : Escr) → EscrFits f → bit c 10 ≡ escrFlag f → drop (escrAt c) c ≡ escrImage f ++ rest → readEscr c ≡ givenEscr f
+  unfolding escrImage escrBase escrExtension
+  escr-read Escr.Absent k f e = sym (field-off c 10 _ h f)
+  escr-read (Escr.Present b x) k f e =
+      let t = escrTable b x in
+      let r : (i : ℕ) → i < 9 → RowFits t i 48 → RowIn t i (bytesOf 6 (joined t) ++ rest) = λ i k l. row-front t 6 i rest refl k l in
+      field-on c 10 _ h f ∙ rw e (ap₂ (λ (y z : ℕ). answer 0 (y ∷ z ∷ []))
+      (omega (arith, r 1 (omega arith) (omega arith), r 3 (omega arith) (omega arith), r 5 (omega arith) (omega arith)))
+      (omega (arith, r 7 (omega arith) (omega arith))))
+
+  rate-read : (f : Field) → atMost (2 ^ 22 - 1) f → bit c 11 ≡ fieldFlag f → drop (rateAt c) c ≡ image 3 rateTable f ++ rest
+      → readEsRate c ≡ givenField f
+  unfolding rateOf image
+  rate-read absent k f e = sym (field-off c 11 _ h f)
+  rate-read (holds v) k f e =
+      field-on c 11 _ h f ∙ rw e (given (omega (arith, row-front (rateTable v) 3 1 rest refl (omega arith) (omega arith))))
+
+  trick-read : (f : Field) → atMost 255 f → bit c 12 ≡ fieldFlag f → drop (trickAt c) c ≡ image 1 trickTable f ++ rest
+      → readRawTrick c ≡ givenField f
+  unfolding image
+  trick-read absent k f e = sym (field-off c 12 _ h f)
+  trick-read (holds v) k f e =
+      field-on c 12 _ h f ∙ rw e (given (omega (arith, row-front (trickTable v) 1 0 rest refl (omega arith) (omega arith))))
+
+  copy-read : (f : Field) → atMost 127 f → bit c 13 ≡ fieldFlag f → drop (copyInfoAt c) c ≡ image 1 copyTable f ++ rest
+      → readCopyInfo c ≡ givenField f
+  unfolding image
+  copy-read absent k f e = sym (field-off c 13 _ h f)
+  copy-read (holds v) k f e =
+      let ys = bytesOf 1 (joined (copyTable v)) ++ rest in
+      let m : bit ys 0 ≡ 1 = omega (arith, field-one ys 0, row-front (copyTable v) 1 0 rest refl (omega arith) (omega arith)) in
+      field-on c 13 _ h f ∙ rw (e, m) (given (omega (arith, row-front (copyTable v) 1 1 rest refl (omega arith) (omega arith))))
+
+  crc-read : (f : Field) → atMost 65535 f → bit c 14 ≡ fieldFlag f → drop (crcAt c) c ≡ image 2 crcTable f ++ rest
+      → readCrc c ≡ givenField f
+  unfolding image
+  crc-read absent k f e = sym (field-off c 14 _ h f)
+  crc-read (holds v) k f e =
+      field-on c 14 _ h f ∙ rw e (given (omega (arith, row-front (crcTable v) 2 0 rest refl (omega arith) (omega arith))))
+
+-- ---- the whole header, with the bytes that follow it
+
+truth-small : (b : Bool) → truth b ≤ 1
+truth-small true = omega arith
+truth-small false = omega arith
+
+module _ (u : Unit) (n : ℕ) (ok : UnitFits u n) (pay : List ℕ) where
+  abbrev ys : List ℕ
+  ys = headerImage u n ++ pay
+
+  abbrev nine : List ℕ
+  nine = bytesOf 9 (joined (headTable u n))
+
+  form : ys ≡ nine ++ (fieldsImage u ++ pay)
+  unfolding headerImage
+  form = append-assoc nine (fieldsImage u) pay
+
+  all-length : length ys ≡ 9 + dataOf u + length pay
+  all-length = omega (arith, length-append (headerImage u n) pay, header-length u n)
+
+  head-row : (i : ℕ) → i < 17 → RowFits (headTable u n) i 72 → RowIn (headTable u n) i ys
+  head-row i h l = rw form (row-front (headTable u n) 9 i (fieldsImage u ++ pay) refl h l)
+
+  pub headed-back : (a : Answer) → headed ys a ≡ a
+  unfolding headed
+  headed-back a = rw (le-ltb (length ys) 6 (omega (arith, all-length)), eq-eqb (field ys 0 24) 1 (head-row 0 (omega arith) (omega arith)))
+
+  pub id-back : idOf ys ≡ u .id
+  unfolding idOf
+  id-back = omega (arith, head-row 1 (omega arith) (omega arith), ok .id-byte)
+
+  pub length-back : packetLength ys ≡ statedLength u n
+  unfolding packetLength
+  length-back = omega (arith, head-row 2 (omega arith) (omega arith), ok .length-fits)
+
+  abbrev c : List ℕ
+  c = contents ys
+
+  check-back : field c 0 2 ≡ 2
+  check-back = field-drop ys 6 0 2 ∙ head-row 3 (omega arith) (omega arith)
+
+  scrambling-back : field c 2 2 ≡ 0
+  scrambling-back = field-drop ys 6 2 2 ∙ head-row 4 (omega arith) (omega arith)
+
+  priority-back : field c 4 1 ≡ truth (u .priority)
+  priority-back = omega (arith, field-drop ys 6 4 1, head-row 5 (omega arith) (omega arith), truth-small (u .priority))
+
+  alignment-back : field c 5 1 ≡ truth (u .alignment)
+  alignment-back = omega (arith, field-drop ys 6 5 1, head-row 6 (omega arith) (omega arith), truth-small (u .alignment))
+
+  copyright-back : field c 6 1 ≡ truth (u .copyright)
+  copyright-back = omega (arith, field-drop ys 6 6 1, head-row 7 (omega arith) (omega arith), truth-small (u .copyright))
+
+  original-back : field c 7 1 ≡ truth (u .original)
+  original-back = omega (arith, field-drop ys 6 7 1, head-row 8 (omega arith) (omega arith), truth-small (u .original))
+
+  times-flags : field c 8 2 ≡ timesFlags (u .times)
+  times-flags = omega (arith, field-drop ys 6 8 2, head-row 9 (omega arith) (omega arith), times-small (u .times))
+
+  escr-flag : bit c 10 ≡ escrFlag (u .escr)
+  escr-flag = omega (arith, field-one c 10, field-drop ys 6 10 1, head-row 10 (omega arith) (omega arith), escr-small (u .escr))
+
+  rate-flag : bit c 11 ≡ fieldFlag (rateField (u .rate))
+  rate-flag = omega (arith, field-one c 11, field-drop ys 6 11 1, head-row 11 (omega arith) (omega arith), flag-small (rateField (u .rate)))
+
+  trick-flag : bit c 12 ≡ fieldFlag (byteField (u .trick))
+  trick-flag =
+      omega (arith, field-one c 12, field-drop ys 6 12 1, head-row 12 (omega arith) (omega arith), flag-small (byteField (u .trick)))
+
+  copy-flag : bit c 13 ≡ fieldFlag (byteField (u .copy))
+  copy-flag = omega (arith, field-one c 13, field-drop ys 6 13 1, head-row 13 (omega arith) (omega arith), flag-small (byteField (u .copy)))
+
+  crc-flag : bit c 14 ≡ fieldFlag (crcField (u .crc))
+  crc-flag = omega (arith, field-one c 14, field-drop ys 6 14 1, head-row 14 (omega arith) (omega arith), flag-small (crcField (u .crc)))
+
+  extension-flag : bit c 15 ≡ 0
+  extension-flag = omega (arith, field-one c 15, field-drop ys 6 15 1, head-row 15 (omega arith) (omega arith))
+
+  data-back : dataLength c ≡ dataOf u
+  unfolding dataLength
+  data-back = omega (arith, field-drop ys 6 16 8, head-row 16 (omega arith) (omega arith), data-small u)
+
+  -- each field stands after those before it
+  abbrev after-copy : List ℕ
+  after-copy = image 2 crcTable (crcField (u .crc)) ++ pay
+
+  abbrev after-trick : List ℕ
+  after-trick = image 1 copyTable (byteField (u .copy)) ++ after-copy
+
+  abbrev after-rate : List ℕ
+  after-rate = image 1 trickTable (byteField (u .trick)) ++ after-trick
+
+  abbrev after-escr : List ℕ
+  after-escr = image 3 rateTable (rateField (u .rate)) ++ after-rate
+
+  abbrev after-times : List ℕ
+  after-times = escrImage (u .escr) ++ after-escr
+
+  times-at : drop 3 c ≡ timesImage (u .times) ++ after-times
+  unfolding fieldsImage
+  times-at =
+      drop-drop 3 6 ys
+      ∙ (ap (drop 9) form ∙ (drop-at nine (fieldsImage u ++ pay) 9 (length-bytesOf 9 (joined (headTable u n))) ∙ simp append-assoc))
+
+  escr-at : drop (escrAt c) c ≡ after-times
+  unfolding escrAt
+  escr-at =
+      let l : length (timesImage (u .times)) ≡ timesSize c = times-length (u .times) ∙ sym (times-size c (u .times) times-flags) in
+      skip (timesImage (u .times)) after-times c 3 (timesSize c) times-at l
+
+  rate-at : drop (rateAt c) c ≡ after-escr
+  unfolding rateAt
+  rate-at = skip (escrImage (u .escr)) after-escr c (escrAt c) (6 * bit c 10) escr-at (omega (arith, escr-length (u .escr), escr-flag))
+
+  trick-at : drop (trickAt c) c ≡ after-rate
+  unfolding trickAt
+  trick-at =
+      let f = rateField (u .rate) in
+      skip (image 3 rateTable f) after-rate c (rateAt c) (3 * bit c 11) rate-at (omega (arith, image-length 3 rateTable f, rate-flag))
+
+  copy-at : drop (copyInfoAt c) c ≡ after-trick
+  unfolding copyInfoAt
+  copy-at =
+      let f = byteField (u .trick) in
+      skip (image 1 trickTable f) after-trick c (trickAt c) (bit c 12) trick-at (omega (arith, image-length 1 trickTable f, trick-flag))
+
+  crc-at : drop (crcAt c) c ≡ after-copy
+  unfolding crcAt
+  crc-at =
+      let f = byteField (u .copy) in
+      skip (image 1 copyTable f) after-copy c (copyInfoAt c) (bit c 13) copy-at (omega (arith, image-length 1 copyTable f, copy-flag))
+
+  end-at : drop (fieldsEnd c) c ≡ pay
+  unfolding fieldsEnd
+  end-at =
+      let f = crcField (u .crc) in
+      skip (image 2 crcTable f) pay c (crcAt c) (2 * bit c 14) crc-at (omega (arith, image-length 2 crcTable f, crc-flag))
+
+  end-is : fieldsEnd c ≡ 3 + dataOf u
+  unfolding fieldsEnd crcAt copyInfoAt trickAt rateAt escrAt dataOf
+  end-is = omega (arith, times-size c (u .times) times-flags, escr-flag, rate-flag, trick-flag, copy-flag, crc-flag)
+
+  pub payload-is : payloadAt c ≡ 3 + dataOf u
+  unfolding payloadAt
+  payload-is = omega (arith, data-back)
+
+  contents-length : length c ≡ 3 + dataOf u + length pay
+  contents-length = omega (arith, length-drop 6 ys, all-length)
+
+  pub accepted-back : Accepted c
+  accepted-back =
+      let a : 3 ≤ length c = omega (arith, contents-length) in
+      let b : getD c 0 0 / 64 % 4 ≡ 2 = sym (in-byte c 0 0 2 6 refl) ∙ check-back in
+      let d : payloadAt c ≤ length c = omega (arith, contents-length, payload-is) in
+      let e : fieldsEnd c ≤ payloadAt c = omega (arith, payload-is, end-is) in
+      record { fixed = a; header = d; fields = e; is = λ x. sound c x (a, b, d, e) }
+
+  bit-given : (o : ℕ) (b : Bool) → field c o 1 ≡ truth b → readFixed o 1 c ≡ givenBit b
+  bit-given o b e = accepted-back .is _ ∙ given e
+
+  -- every field as given
+  pub fields-back : HasFields u ys
+  fields-back =
+      let a = accepted-back in
+      record {
+        head = headed-back (answer 0 []);
+        id = id-back;
+        accepted = a .is (answer 0 []);
+        priority = bit-given 4 (u .priority) priority-back;
+        alignment = bit-given 5 (u .alignment) alignment-back;
+        copyright = bit-given 6 (u .copyright) copyright-back;
+        original = bit-given 7 (u .original) original-back;
+        times = times-read c after-times a (u .times) (ok .times-fit) times-flags times-at;
+        escr = escr-read c after-escr a (u .escr) (ok .escr-fits) escr-flag escr-at;
+        rate = rate-read c after-rate a (rateField (u .rate)) (ok .rate-fits) rate-flag rate-at;
+        trick = trick-read c after-trick a (byteField (u .trick)) (ok .trick-fits) trick-flag trick-at;
+        copy = copy-read c after-copy a (byteField (u .copy)) (ok .copy-fits) copy-flag copy-at;
+        crc = crc-read c pay a (crcField (u .crc)) (ok .crc-fits) crc-flag crc-at;
+      }
+
+  -- and the payload after the header
+  pub payload-after : ownBytes ys ≡ pay
+  unfolding ownBytes belongs partOf
+  payload-after =
+      let p : parsedId (idOf ys) ≡ true = ap parsedId id-back ∙ ok .id-parsed in
+      let e : drop (6 + payloadAt c) ys ≡ pay
+      = sym (drop-drop (payloadAt c) 6 ys) ∙ (ap (λ (k : ℕ). drop k c) (payload-is ∙ sym end-is) ∙ end-at) in
+      let l : length pay ≤ length c - payloadAt c = omega (arith, contents-length, payload-is) in
+      simp (headed-back, p, accepted-back .is) (ap (take (length c - payloadAt c)) e ∙ take-all (length c - payloadAt c) pay l)
+
+  -- nothing that the unit does not name is set: no scrambling, no extension, no stuffing
+  pub rest-given : (readFixed 2 2 c ≡ answer 0 (0 ∷ [])) × (readFixed 16 8 c ≡ answer 0 (dataOf u ∷ [])) × (readExtension c ≡ answer 9 [])
+  unfolding dataLength
+  rest-given =
+      let a = accepted-back in
+      (a .is _ ∙ given scrambling-back, a .is _ ∙ given data-back, sym (field-off c 15 _ a extension-flag))

@@ -1,0 +1,11 @@
+pub mod Rows
+pub mod Permits
+pub mod HeaderBack
+pub mod Carrier
+pub mod Carried
+pub mod Written
+pub mod Least
+pub mod Accepted
+pub mod Slices
+pub mod Theorems
+pub mod Examples

@@ -1,0 +1,93 @@
+-- Demand 3: what the writer accepts reads back whole, in the fewest packets.
+use mathlib.Core.Path.{_≡_}
+use mathlib.Core.Bool.{Bool, true, false}
+use mathlib.Core.List.{List, [], _∷_, _++_, map}
+use Prim.Native.Nat.{ℕ, zero, suc, _+_, _-_, _*_, _%_, _≤_, _<_, min}
+use lib.ListN.{length, getD}
+use lib.Seq.{sets}
+use Rattle.bits.specs.Answer.{answer, All}
+use Rattle.bits.specs.Numbers.{done}
+use Rattle.packet.specs.Packet.{pidField, counterField}
+use Rattle.pes.specs.Head.{packetLength}
+use Rattle.log.specs.declared.Event.{Event}
+use Rattle.log.specs.Entry.{event, eventValues, entriesBytes, readEntry, beginPacket, continuePacket}
+use Rattle.machine.specs.declared.Phase.{Phase}
+use Rattle.machine.specs.declared.Last.{Last}
+use Rattle.machine.specs.declared.Last.the-variants.{Nothing, At}
+use Rattle.machine.specs.declared.Machine.{Machine}
+use Rattle.machine.specs.Events.{State, opened, run}
+use Rattle.machine.specs.Run.{Ran, shifted}
+use Rattle.writer.specs.declared.Route.{Route}
+use Rattle.writer.specs.declared.Unit.{Unit}
+use Rattle.writer.specs.Unit.{byteField, crcField, Field, absent, holds, dataOf, statedLength, countOf}
+use Rattle.writer.specs.Writer.{allOf, routeTests, unitTests, sizeTests}
+use Rattle.capacity.specs.Reads.{bytesAt, Delivers}
+
+-- ---- what is permitted
+
+abbrev pub atMost : ℕ → Field → Type 0
+atMost z absent = 0 ≤ 0
+atMost z (holds v) = v ≤ z
+
+-- neither 17 nor 18; and the id, the trick mode byte and the CRC field are numbers of their types, as they are in every call
+pub record Permitted (r : Route) (u : Unit) (n : ℕ) : Type 0 where
+  pub route-good : allOf (routeTests r) ≡ true
+  pub unit-good : allOf (unitTests u) ≡ true
+  pub size-good : allOf (sizeTests u n) ≡ true
+  pub id-byte : u .id ≤ 255
+  pub trick-byte : atMost 255 (byteField (u .trick))
+  pub crc-word : atMost 65535 (crcField (u .crc))
+
+-- no last counter, or the one before the first: any phase
+abbrev pub Before : ℕ → Last → Type 0
+Before c Nothing = 0 ≤ 0
+Before c (At l) = (l + 1) % 16 ≡ c
+
+abbrev pub Ready : Route → State → Type 0
+Ready r s = Before (r .counter) (s .last)
+
+-- ---- the events of a unit that is written
+
+-- an event with the last r bytes of packet i
+abbrev pub endOf : ℕ → ℕ → ℕ → Event
+endOf k i r = event k i (188 - r) r
+
+-- the continues of k packets from packet i on that carry m bytes: 184 each, the last the rest
+unfoldable pub continuesOf : ℕ → ℕ → ℕ → List Event
+continuesOf i zero m = []
+continuesOf i (suc k) m = endOf continuePacket i (min 184 m) ∷ continuesOf (suc i) k (m - 184)
+
+-- what the phase gives on a start, one begin, then continues: no break
+unfoldable pub eventsWritten : Phase → ℕ → ℕ → List Event
+eventsWritten f k m = opened f 0 ++ (endOf beginPacket 0 (min 184 m) ∷ continuesOf 1 (k - 1) (m - 184))
+
+-- ---- read from the strictest side
+
+-- the packets run from a counter on
+abbrev pub Counters : ℕ → List (List ℕ) → Type 0
+Counters c [] = 0 ≤ 0
+Counters c (p ∷ ps) = (counterField p ≡ c) × Counters ((c + 1) % 16) ps
+
+-- packets that deliver a unit as the writer is asked to: with its PID and counters, in so many packets, with no other event than
+-- the listed, and the stated length
+pub record Strict (r : Route) (u : Unit) (payload : List ℕ) (s : State) (ps : List (List ℕ)) : Type 0 where
+  pub ready : Ready r s
+  pub pids : All (λ (p : List ℕ). pidField p ≡ r .pid) ps
+  pub counters : Counters (r .counter) ps
+  pub events : run 0 s ps ≡ eventsWritten (s .phase) (length ps) (9 + dataOf u + length payload)
+  pub delivers : Delivers u payload s ps
+  pub stated : packetLength (bytesAt ps (delivers .segment-of .first)) ≡ statedLength u (length payload)
+
+-- ---- over the machine with its log
+
+-- a run from a machine over a log took so many packets, and left these events, which read back
+pub record Logged (m : Machine) (log : List ℕ) (ran : Ran) (count : ℕ) (es : List Event) : Type 0 where
+  pub accepted : ran .answer .number ≡ done
+  pub taken : ran .answer .machine .taken ≡ m .taken + count
+  pub place : ran .answer .machine .place ≡ m .place + 8 * length es
+  pub log-is : ran .log ≡ sets log (m .place) (entriesBytes es)
+  pub reads-back : (k : ℕ) → k < length es → readEntry (ran .log) (m .place + 8 * k) ≡ answer done (eventValues (getD es k (event 0 0 0 0)))
+
+-- the events of a unit, from the machine's next packet on
+abbrev pub eventsLogged : Unit → ℕ → Machine → List Event
+eventsLogged u n m = map (shifted (m .taken)) (eventsWritten (m .phase) (countOf u n) (9 + dataOf u + n))

@@ -1,0 +1,3 @@
+pub mod Reads
+pub mod Accepted
+pub mod Demand
