@@ -20,7 +20,9 @@ use Rattle.machine.specs.declared.Last.the-variants.{Nothing, At}
 use Rattle.machine.specs.Events.{State, state, headAccepted, held, continuous, opened, begun, continued, eventsOf, phaseAfter, next, run}
 use Rattle.gather.specs.Belongs.{eventBytes}
 use Rattle.writer.specs.Packets.{carrier, carried}
-use Rattle.capacity.specs.Reads.{bytesAt, bytesOfAll, upToBegin, segment, segments, IsPacket}
+use Rattle.machine.specs.Run.{IsPacket}
+use Rattle.gather.specs.Units.{bytesAt, bytesAtAll}
+use Rattle.capacity.specs.Reads.{upToBegin, segment, segments}
 use Rattle.capacity.specs.Demand.{Before, endOf, continuesOf, eventsWritten, Counters}
 use Rattle.capacity.proofs.Carrier.{start-back, pid-back, flag-back, counter-back, content-back, payload-back, rest-back, part-back, is-packet}
 
@@ -100,7 +102,7 @@ run-later (suc k) id c i xs l h f t =
 -- the bytes of a packet in a list, by its event
 bytes-made : (k start id c : ℕ) (xs : List ℕ) (before after : List (List ℕ)) → length xs ≤ 184
     → bytesAt (before ++ carrier start id c xs ∷ after) (endOf k (length before) (length xs)) ≡ xs
-unfolding bytesAt eventBytes
+unfolding eventBytes
 bytes-made k start id c xs before after h =
     rw (getD-at before (carrier start id c xs) after [] (length before) refl) (part-back start id c xs h)
 
@@ -112,8 +114,8 @@ bytes-chunk k start id c xs before after =
 
 -- the bytes of the continues are the bytes carried
 bytes-later : (k id c : ℕ) (xs : List ℕ) (before : List (List ℕ)) → Takes k xs
-    → bytesOfAll (before ++ carried k 0 id c xs) (continuesOf (length before) k (length xs)) ≡ xs
-unfolding bytesOfAll carried continuesOf
+    → bytesAtAll (before ++ carried k 0 id c xs) (continuesOf (length before) k (length xs)) ≡ xs
+unfolding carried continuesOf
 bytes-later zero id c [] before t = refl
 bytes-later zero id c (x ∷ xs) before t = absurd (omega arith)
 bytes-later (suc k) id c xs before t =
@@ -191,9 +193,9 @@ module _ (k id c : ℕ) (xs : List ℕ) (takes : Takes (suc k) xs) where
 
   pub first-bytes : bytesAt (carried (suc k) 1 id c xs) (endOf beginPacket 0 (min 184 (length xs))) ≡ take 184 xs
   unfolding carried
-  first-bytes = bytes-chunk beginPacket 1 id c xs [] _
+  first-bytes = bytes-chunk beginPacket 1 id c xs [] (carried k 0 id ((c + 1) % 16) (drop 184 xs))
 
-  pub rest-bytes : bytesOfAll (carried (suc k) 1 id c xs) (continuesOf 1 k (length xs - 184)) ≡ drop 184 xs
+  pub rest-bytes : bytesAtAll (carried (suc k) 1 id c xs) (continuesOf 1 k (length xs - 184)) ≡ drop 184 xs
   unfolding carried
   rest-bytes =
       let b = bytes-later k id ((c + 1) % 16) (drop 184 xs) (carrier 1 id c (take 184 xs) ∷ []) (takes-rest k xs takes) in

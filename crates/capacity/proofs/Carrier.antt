@@ -18,7 +18,7 @@ use Rattle.packet.specs.Packet.{pidField, counterField, adaptationFlag, payload
 use Rattle.packet.proofs.Laws.{sound-is}
 use Rattle.machine.specs.Events.{startFlag}
 use Rattle.writer.specs.Packets.{packetTable, stuffing, carrier}
-use Rattle.capacity.specs.Reads.{IsPacket}
+use Rattle.machine.specs.Run.{IsPacket}
 use Rattle.capacity.proofs.Rows.{RowIn, RowFits, row-front}
 
 -- the adaptation field and the payload are 184 bytes

@@ -28,7 +28,8 @@ use Rattle.writer.specs.declared.Crc.{Crc}
 use Rattle.writer.specs.declared.Unit.{Unit}
 use Rattle.writer.specs.Unit.{dataOf, statedLength, countOf}
 use Rattle.writer.specs.Writer.{routeTests, unitTests, sizeTests}
-use Rattle.capacity.specs.Reads.{bytesAt, bytesOfAll, upToBegin, segment, segments, HasFields, Delivers}
+use Rattle.gather.specs.Units.{bytesAt, bytesAtAll}
+use Rattle.capacity.specs.Reads.{upToBegin, segment, segments, HasFields, Delivers}
 use Rattle.capacity.specs.Demand.{Permitted}
 
 abbrev unit : ℕ → Bool → Times → Unit
@@ -82,7 +83,7 @@ unfolding segments upToBegin run eventsOf begun continuous startFlag headAccepte
 bare-one = refl
 
 bare-bytes : bytesAt (packet ∷ []) begin ≡ 0 ∷ 0 ∷ 1 ∷ 0xBC ∷ 0 ∷ 0 ∷ carries
-unfolding bytesAt eventBytes
+unfolding eventBytes
 bare-bytes = refl
 
 bare-fields : HasFields bare (0 ∷ 0 ∷ 1 ∷ 0xBC ∷ 0 ∷ 0 ∷ carries)
@@ -109,7 +110,6 @@ unfolding ownBytes belongs partOf parsedId headed idOf bit field
 bare-payload = refl
 
 pub bare-in-one : Delivers bare carries (state Begin Nothing) (packet ∷ [])
-unfolding bytesOfAll
 bare-in-one =
     record {
       packets = ((refl, refl), tt);

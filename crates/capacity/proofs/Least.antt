@@ -28,7 +28,8 @@ use Rattle.writer.specs.declared.Times.the-variants.{Untimed, Pts, Both}
 use Rattle.writer.specs.declared.Escr.{Escr}
 use Rattle.writer.specs.declared.Unit.{Unit}
 use Rattle.writer.specs.Unit.{Field, absent, holds, rateField, byteField, crcField, escrFlag, fieldFlag, timesBytes, dataOf, countOf}
-use Rattle.capacity.specs.Reads.{bytesAt, bytesOfAll, begins, continues, upToBegin, Segment, segment, segments, givenTimes, givenEscr, givenField, contents, HasFields, Gives}
+use Rattle.gather.specs.Units.{bytesAt, bytesAtAll}
+use Rattle.capacity.specs.Reads.{begins, continues, upToBegin, Segment, segment, segments, givenTimes, givenEscr, givenField, contents, HasFields, Gives}
 
 -- ---- a packet gives at most one part, of at most 184 bytes
 
@@ -150,14 +151,13 @@ short-segments (e ∷ es) h =
     segments-pick (begins e) (segment e (upToBegin es)) (segments es) (h .0, short-up es (h .1)) (short-segments es (h .1))
 
 part-length : (ps : List (List ℕ)) (e : Event) → Short e → length (bytesAt ps e) ≤ 184
-unfolding bytesAt eventBytes
+unfolding eventBytes
 part-length ps e h = omega (arith, length-take (e .length) (drop (e .place) (getD ps (e .index) [])))
 
-parts-length : (ps : List (List ℕ)) (es : List Event) → All Short es → length (bytesOfAll ps es) ≤ 184 * length es
-unfolding bytesOfAll
+parts-length : (ps : List (List ℕ)) (es : List Event) → All Short es → length (bytesAtAll ps es) ≤ 184 * length es
 parts-length ps [] h = omega arith
 parts-length ps (e ∷ es) h =
-    omega (arith, length-append (bytesAt ps e) (bytesOfAll ps es), part-length ps e (h .0), parts-length ps es (h .1))
+    omega (arith, length-append (bytesAt ps e) (bytesAtAll ps es), part-length ps e (h .0), parts-length ps es (h .1))
 
 -- ---- a header with a unit's fields is at least as long as the unit's
 
@@ -254,7 +254,7 @@ least-segment ps u payload g p s h =
       header-room u xs (h .header) p,
       part-length ps (g .first) (s .0),
       parts-length ps (g .later) (s .1),
-      length-append (ownBytes xs) (bytesOfAll ps (g .later)),
+      length-append (ownBytes xs) (bytesAtAll ps (g .later)),
       ap length (h .payload-joined),
     )
 

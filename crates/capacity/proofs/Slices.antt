@@ -10,7 +10,7 @@ use Rattle.bits.specs.Answer.{All}
 use Rattle.machine.specs.Run.{chunk}
 use Rattle.machine.specs.Run.{packetsOf as packetsIn}
 use Rattle.writer.specs.Packets.{flat}
-use Rattle.capacity.specs.Reads.{IsPacket}
+use Rattle.machine.specs.Run.{IsPacket}
 
 pub flat-length : (ps : List (List ℕ)) → All IsPacket ps → length (flat ps) ≡ 188 * length ps
 unfolding flat

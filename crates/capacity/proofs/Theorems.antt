@@ -30,7 +30,8 @@ use Rattle.writer.specs.declared.Unit.{Unit}
 use Rattle.writer.specs.Unit.{dataOf, countOf}
 use Rattle.writer.specs.Packets.{headerImage, packetsOf, flat}
 use Rattle.writer.specs.Writer.{writeOf, outputOf}
-use Rattle.capacity.specs.Reads.{bytesAt, Delivers}
+use Rattle.gather.specs.Units.{bytesAt}
+use Rattle.capacity.specs.Reads.{Delivers}
 use Rattle.capacity.specs.Accepted.{PacketsRead, HeaderRead}
 use Rattle.capacity.specs.Demand.{Permitted, Ready, endOf, eventsWritten, Strict, Logged, eventsLogged}
 use Rattle.capacity.proofs.Permits.{route-fits, unit-fits}

@@ -17,7 +17,9 @@ use Rattle.writer.specs.declared.Route.{Route}
 use Rattle.writer.specs.declared.Unit.{Unit}
 use Rattle.writer.specs.Unit.{dataOf, countOf}
 use Rattle.writer.specs.Packets.{headerImage, carried, packetsOf}
-use Rattle.capacity.specs.Reads.{bytesAt, bytesOfAll, Segment, segment, segments, IsPacket, Gives}
+use Rattle.machine.specs.Run.{IsPacket}
+use Rattle.gather.specs.Units.{bytesAt, bytesAtAll}
+use Rattle.capacity.specs.Reads.{Segment, segment, segments, Gives}
 use Rattle.capacity.specs.Demand.{Permitted, Ready, endOf, continuesOf, eventsWritten, Counters}
 use Rattle.capacity.proofs.Permits.{RouteFits, UnitFits, route-fits, unit-fits}
 use Rattle.capacity.proofs.HeaderBack.{header-length, data-small, headed-back, fields-back, payload-after}
@@ -99,7 +101,7 @@ module _ (r : Route) (u : Unit) (payload : List ℕ) (ok : Permitted r u (length
   pub first-is : bytesAt (packetsOf r u payload) (whole .first) ≡ headerImage u n ++ first
   first-is = rw (packets-are, ← stream-length) (first-bytes k (r .pid) (r .counter) stream takes ∙ first-chunk)
 
-  rest-is : bytesOfAll (packetsOf r u payload) (whole .later) ≡ drop (175 - dataOf u) payload
+  rest-is : bytesAtAll (packetsOf r u payload) (whole .later) ≡ drop (175 - dataOf u) payload
   rest-is = rw (packets-are, ← stream-length) (rest-bytes k (r .pid) (r .counter) stream takes ∙ rest-chunk)
 
   pub unit-gives : Gives (packetsOf r u payload) u payload whole

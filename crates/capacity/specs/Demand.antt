@@ -21,7 +21,8 @@ use Rattle.writer.specs.declared.Route.{Route}
 use Rattle.writer.specs.declared.Unit.{Unit}
 use Rattle.writer.specs.Unit.{byteField, crcField, Field, absent, holds, dataOf, statedLength, countOf}
 use Rattle.writer.specs.Writer.{allOf, routeTests, unitTests, sizeTests}
-use Rattle.capacity.specs.Reads.{bytesAt, Delivers}
+use Rattle.gather.specs.Units.{bytesAt}
+use Rattle.capacity.specs.Reads.{Delivers}
 
 -- ---- what is permitted
 

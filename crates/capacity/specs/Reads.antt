@@ -3,7 +3,7 @@ use mathlib.Core.Path.{_≡_}
 use mathlib.Core.Bool.{Bool, true, false}
 use mathlib.Core.List.{List, [], _∷_, _++_}
 use Prim.Native.Nat.{ℕ}
-use lib.ListN.{length, drop, getD}
+use lib.ListN.{drop}
 use lib.Dec.{eqb}
 use Rattle.bits.specs.Answer.{Answer, answer, pick, truth, All}
 use Rattle.bits.specs.Numbers.{done, fieldNotPresent}
@@ -13,22 +13,16 @@ use Rattle.contents.specs.Trick.{readRawTrick}
 use Rattle.log.specs.declared.Event.{Event}
 use Rattle.log.specs.Entry.{beginPacket, continuePacket}
 use Rattle.machine.specs.Events.{State, run}
-use Rattle.gather.specs.Belongs.{eventBytes, ownBytes}
+use Rattle.machine.specs.Run.{IsPacket}
+use Rattle.gather.specs.Belongs.{ownBytes}
+use Rattle.gather.specs.Units.{bytesAt, bytesAtAll}
 use Rattle.writer.specs.declared.Times.{Times}
 use Rattle.writer.specs.declared.Times.the-variants.{Untimed, Pts, Both}
 use Rattle.writer.specs.declared.Escr.{Escr}
 use Rattle.writer.specs.declared.Unit.{Unit}
 use Rattle.writer.specs.Unit.{Field, absent, holds, rateField, byteField, crcField}
 
--- ---- bytes and segments
-
--- the bytes of an event, and those of a list of events, joined
-unfoldable pub bytesAt : List (List ℕ) → Event → List ℕ
-bytesAt ps e = eventBytes (getD ps (e .index) []) e
-
-unfoldable pub bytesOfAll : List (List ℕ) → List Event → List ℕ
-bytesOfAll ps [] = []
-bytesOfAll ps (e ∷ es) = bytesAt ps e ++ bytesOfAll ps es
+-- ---- segments
 
 abbrev pub begins : Event → Bool
 begins e = eqb (e .kind) beginPacket
@@ -97,11 +91,7 @@ pub record HasFields (u : Unit) (xs : List ℕ) : Type 0 where
 -- continues is the payload
 pub record Gives (ps : List (List ℕ)) (u : Unit) (payload : List ℕ) (g : Segment) : Type 0 where
   pub header : HasFields u (bytesAt ps (g .first))
-  pub payload-joined : ownBytes (bytesAt ps (g .first)) ++ bytesOfAll ps (g .later) ≡ payload
-
--- a packet of the domain
-abbrev pub IsPacket : List ℕ → Type 0
-IsPacket p = (length p ≡ 188) × (getD p 0 0 ≡ 0x47)
+  pub payload-joined : ownBytes (bytesAt ps (g .first)) ++ bytesAtAll ps (g .later) ≡ payload
 
 -- THESE PACKETS, READ FROM THIS STATE, DELIVER THE UNIT: there is one begin, and its segment gives the unit with its payload
 pub record Delivers (u : Unit) (payload : List ℕ) (s : State) (ps : List (List ℕ)) : Type 0 where

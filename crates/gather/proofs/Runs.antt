@@ -20,7 +20,8 @@ use Rattle.machine.proofs.Laws.{payload-below}
 use Rattle.gather.specs.declared.Lies.the-variants.{Store}
 use Rattle.gather.specs.Gather.{gathering, fresh}
 use Rattle.gather.specs.Units.{Standing, called, gatherAll, answers, readAt, unitBytes}
-use Rattle.gather.specs.Units.{IsPacket, Inside, Good, Kind, Known, NoBegin, Quiet, Some, Taken}
+use Rattle.machine.specs.Run.{IsPacket}
+use Rattle.gather.specs.Units.{Inside, Good, Kind, Known, NoBegin, Quiet, Some, Taken}
 use Rattle.gather.proofs.Theorems.{gather-append, gathered, break-cuts, none-read, stays-good, all-good}
 
 -- ---- the events of a run: each of a known kind, of a packet that is there, with a part that lies in it

@@ -29,7 +29,8 @@ use Rattle.gather.specs.Gather.{gathering, fresh, eventGood, inPacket, s
 use Rattle.gather.specs.Gather.{verdictNumber, given, gatherOf, storeOf, givenHeld, bytesOf, Possible}
 use Rattle.gather.specs.Units.{Standing, standing, packetOf, answered, called, gatherAll, answers, readAt, bytesAt, bytesAtAll}
 use Rattle.gather.specs.Units.{unitBytes, lastOf}
-use Rattle.gather.specs.Units.{IsPacket, Inside, Good, Kind, Known, NoBegin, Taken, Open}
+use Rattle.machine.specs.Run.{IsPacket}
+use Rattle.gather.specs.Units.{Inside, Good, Kind, Known, NoBegin, Taken, Open}
 use Rattle.gather.proofs.Laws.{part-tested, state-tested, state-inside, read-done, bytes-are, event-part, added-begin, added-open}
 use Rattle.gather.proofs.Laws.{added-closed, added-none, kept-begin, kept-other, number-done, full, taken}
 

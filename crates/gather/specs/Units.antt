@@ -62,10 +62,6 @@ lastOf b (c ∷ cs) = lastOf c cs
 
 -- ---- what the theorems ask
 
--- a packet of 188 bytes with the sync byte
-abbrev pub IsPacket : List ℕ → Type 0
-IsPacket p = (length p ≡ 188) × (getD p 0 0 ≡ 0x47)
-
 -- an event whose packet is there and whose part lies in it
 abbrev pub Inside : List (List ℕ) → Event → Type 0
 Inside ps e = (e .index < length ps) × (e .place + e .length ≤ 188)

@@ -28,7 +28,7 @@ use Rattle.machine.specs.declared.Verdict.{Verdict}
 use Rattle.machine.specs.declared.Verdict.the-variants.{Done, WrongLength, NoSync, OutOfRange, IndexFull, LogFull}
 use Rattle.machine.specs.Events.{State, state, startFlag, headAccepted, continuous, broken, settled, opened, begun, continued, rest, eventsOf, phaseAfter, next, run}
 use Rattle.machine.specs.Step.{stateOf, eventsAt, numberOf, advanced, other, wrongLast, Outcome, verdictNumber, given, stepOf, logOf}
-use Rattle.machine.specs.Run.{Ran, runOf, Whole, Sound, shifted, startStreams, startFlags}
+use Rattle.machine.specs.Run.{Ran, runOf, IsPacket, Sound, shifted, startStreams, startFlags}
 use Rattle.machine.proofs.Laws.{payload-below, no-refusal}
 
 -- ---- one answer only
@@ -247,7 +247,7 @@ counter-below : (p : List ℕ) → counterField p ≤ 15
 unfolding counterField
 counter-below p = omega (arith, field-below p 28 4)
 
-pub run-taken : (ps : List (List ℕ)) (m : Machine) (l : List ℕ) → Sound m l → All Whole ps → m .taken + length ps ≤ 4_294_967_295
+pub run-taken : (ps : List (List ℕ)) (m : Machine) (l : List ℕ) → Sound m l → All IsPacket ps → m .taken + length ps ≤ 4_294_967_295
     → m .place + 8 * length (run (m .taken) (stateOf m) ps) ≤ length l
     → (runOf m ps l .answer .number ≡ 0)
     × (runOf m ps l .answer .machine .taken ≡ m .taken + length ps)
@@ -278,7 +278,7 @@ proper-run (p ∷ ps) i s h =
     all-append (eventsOf i s p) (run (suc i) (next s p) ps)
     (proper-events i p (omega arith) s) (proper-run ps (suc i) (next s p) (omega arith))
 
-pub run-reads-back : (ps : List (List ℕ)) (m : Machine) (l : List ℕ) → Sound m l → All Whole ps → m .taken + length ps ≤ 4_294_967_295
+pub run-reads-back : (ps : List (List ℕ)) (m : Machine) (l : List ℕ) → Sound m l → All IsPacket ps → m .taken + length ps ≤ 4_294_967_295
     → m .place + 8 * length (run (m .taken) (stateOf m) ps) ≤ length l
     → (k : ℕ) → k < length (run (m .taken) (stateOf m) ps)
     → readEntry (runOf m ps l .log) (m .place + 8 * k) ≡ answer 0 (eventValues (nth (run (m .taken) (stateOf m) ps) k))
