@@ -7,5 +7,6 @@ pub mod Written
 pub mod Least
 pub mod Accepted
 pub mod Slices
+pub mod Gathered
 pub mod Theorems
 pub mod Examples

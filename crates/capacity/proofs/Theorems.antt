@@ -11,7 +11,7 @@ use lib.ListN.{length, take, drop}
 use lib.Seq.{take-at, drop-at, sets}
 use lib.Dec.{ltb}
 use borrow.Author.Tests.{eq-eqb, ltb-true, ltb-false, le-ltb}
-use Rattle.bits.specs.Answer.{Answer, answer, pick}
+use Rattle.bits.specs.Answer.{Answer, answer, pick, All}
 use Rattle.bits.specs.Numbers.{done, noRoom}
 use Rattle.pes.specs.Stream.{parsedId}
 use Rattle.log.specs.declared.Event.{Event}
@@ -20,11 +20,13 @@ use Rattle.log.proofs.Theorems.{nth}
 use Rattle.machine.specs.declared.Phase.the-variants.{Begin}
 use Rattle.machine.specs.declared.Last.the-variants.{Nothing}
 use Rattle.machine.specs.declared.Machine.{Machine}
-use Rattle.machine.specs.Events.{State, state, run}
+use Rattle.machine.specs.Events.{State, state, opened, run}
 use Rattle.machine.specs.Step.{stateOf}
 use Rattle.machine.specs.Run.{Ran, runOf, Sound, shifted}
 use Rattle.machine.specs.Run.{packetsOf as packetsIn}
 use Rattle.machine.proofs.Theorems.{run-taken, run-written, run-reads-back, run-shift}
+use Rattle.gather.specs.Units.{Standing, gatherAll, answers, readAt, unitBytes, lastOf, Good, Taken, Open}
+use Rattle.gather.proofs.Theorems.{gather-append, taken-append, gathering-open}
 use Rattle.writer.specs.declared.Route.{Route}
 use Rattle.writer.specs.declared.Unit.{Unit}
 use Rattle.writer.specs.Unit.{dataOf, countOf}
@@ -33,12 +35,13 @@ use Rattle.writer.specs.Writer.{writeOf, outputOf}
 use Rattle.gather.specs.Units.{bytesAt}
 use Rattle.capacity.specs.Reads.{Delivers}
 use Rattle.capacity.specs.Accepted.{PacketsRead, HeaderRead}
-use Rattle.capacity.specs.Demand.{Permitted, Ready, endOf, eventsWritten, Strict, Logged, eventsLogged}
+use Rattle.capacity.specs.Demand.{Permitted, Ready, endOf, continuesOf, eventsWritten, Strict, Logged, eventsLogged}
 use Rattle.capacity.proofs.Permits.{route-fits, unit-fits}
 use Rattle.capacity.proofs.HeaderBack.{length-back}
 use Rattle.capacity.proofs.Written.{count-of-packets, all-packets, stream-length, stream-takes, unit-run, whole, first-is, unit-gives, unit-segments, unit-pids, unit-counters}
 use Rattle.capacity.proofs.Accepted.{read-carried, header-read}
 use Rattle.capacity.proofs.Slices.{flat-length, packets-flat}
+use Rattle.capacity.proofs.Gathered.{continues-kind, continues-inside, part-inside, opened-taken, long-enough}
 use Rattle.capacity.proofs.Least.{least-segment, segment-within}
 
 -- ---- 1. whatever packets deliver a unit, from whatever state, are at least its count
@@ -188,3 +191,36 @@ logged r u payload out m log ok h f s t l =
       log-is = run-written m ps log (a .0);
       reads-back = run-reads-back ps m log s (all-packets r u payload) long room;
     })
+
+-- ---- 6. what was written, taken by the machine and gathered in a store, is the payload
+
+-- every call is answered by 0; a unit is open whose bytes are the payload, and they are what is read out
+pub unit-gathered : (r : Route) (u : Unit) (payload : List ℕ) (s : State) (t : Standing)
+    → Permitted r u (length payload) → Ready r s → Good t → length payload ≤ length (t .store)
+    → let ps = packetsOf r u payload in
+    let cs = continuesOf 1 (countOf u (length payload) - 1) (9 + dataOf u + length payload - 184) in
+    let b = endOf beginPacket 0 (min 184 (9 + dataOf u + length payload)) in
+    All Taken (answers ps t (run 0 s ps))
+    × Open payload (length (t .store)) (gatherAll ps t (run 0 s ps))
+    × (readAt ps (gatherAll ps t (run 0 s ps)) (lastOf b cs) ≡ payload)
+unfolding eventsWritten unitBytes
+unit-gathered r u payload s t ok f good room =
+    let ps = packetsOf r u payload in
+    let n = length payload in
+    let m = 9 + dataOf u + n in
+    let k = countOf u n in
+    let b = endOf beginPacket 0 (min 184 m) in
+    let cs = continuesOf 1 (k - 1) (m - 184) in
+    let long : 1 + (k - 1) ≤ length ps = long-enough r u payload in
+    let all = all-packets r u payload in
+    let es = opened (s .phase) 0 in
+    let o = opened-taken ps all t good (omega arith) (s .phase) in
+    let t₁ = gatherAll ps t es in
+    let e : run 0 s ps ≡ es ++ (b ∷ cs) = unit-run r u payload ok s f in
+    let q : unitBytes ps b cs ≡ payload = unit-gives r u payload ok .payload-joined in
+    let h = ap length q in
+    let kinds = continues-kind 1 (k - 1) (m - 184) in
+    let inside = continues-inside ps 1 (k - 1) (m - 184) long in
+    let w = gathering-open ps all t₁ (o .1) b cs refl (omega arith, part-inside m) kinds inside (omega (arith, o .2)) in
+    rw (e, gather-append ps t es (b ∷ cs))
+    (taken-append ps t es (b ∷ cs) (o .0) (w .0), (rw (q, o .2) at (w .1)), w .2 ∙ q)

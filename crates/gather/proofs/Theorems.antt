@@ -305,6 +305,14 @@ module _ (ps : List (List ℕ)) (all : All IsPacket ps) (t : Standing) (e : Even
       let c = accepted ps all t e k i ok (rw (d, ← j) (omega arith)) in
       (c .0, c .1 ∙ rw (d, ← j, ← placed-none (t .store) (t .gathering .count)))
 
+  -- a start of the stream changes nothing
+  pub start-leaves : Kind 1 e → Good t → (answered ps t e .number ≡ 0) × (called ps t e ≡ t)
+  start-leaves k ok =
+      let p = packetOf ps e in
+      let j = added-none (t .gathering) p e (λ z. omega arith) (λ z. omega arith) in
+      let c = nothing-added (omega arith) ok (λ z. omega arith) j in
+      (c .0, c .1 ∙ rw (next-start (t .gathering) p e k))
+
   -- an end closes the unit and keeps its bytes
   pub end-keeps : Kind 4 e → Good t
       → (answered ps t e .number ≡ 0) × (called ps t e ≡ standing (gathering false (t .gathering .count) Store) (t .store))
@@ -328,7 +336,7 @@ pub gather-append : (ps : List (List ℕ)) (t : Standing) (a b : List Event) →
 gather-append ps t [] b = refl
 gather-append ps t (e ∷ a) b = gather-append ps (called ps t e) a b
 
-taken-append : (ps : List (List ℕ)) (t : Standing) (a b : List Event)
+pub taken-append : (ps : List (List ℕ)) (t : Standing) (a b : List Event)
     → All Taken (answers ps t a) → All Taken (answers ps (gatherAll ps t a) b) → All Taken (answers ps t (a ++ b))
 taken-append ps t [] b h k = k
 taken-append ps t (e ∷ a) b h k = (h .0, taken-append ps (called ps t e) a b (h .1) k)

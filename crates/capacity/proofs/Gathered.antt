@@ -1,0 +1,53 @@
+-- The events of a unit that is written, as calls of the gathering store.
+-- Assumes nothing.
+use mathlib.Core.Path.{_≡_, refl}
+use mathlib.Core.List.{List, [], _∷_}
+use Prim.Native.Nat.{ℕ, zero, suc, _+_, _-_, _≤_, _<_, min}
+use native.Mathlib.Omega.{arith}
+use lib.ListN.{length}
+use Rattle.bits.specs.Answer.{All}
+use Rattle.machine.specs.declared.Phase.{Phase}
+use Rattle.machine.specs.declared.Phase.the-variants.{Begin, Started, IgnoreRest}
+use Rattle.machine.specs.Events.{plain, opened}
+use Rattle.machine.specs.Run.{IsPacket}
+use Rattle.gather.specs.Units.{Standing, gatherAll, answers, Inside, Good, Kind, Taken}
+use Rattle.gather.proofs.Theorems.{start-leaves, end-keeps, all-good}
+use Rattle.writer.specs.declared.Route.{Route}
+use Rattle.writer.specs.declared.Unit.{Unit}
+use Rattle.writer.specs.Unit.{countOf}
+use Rattle.writer.specs.Packets.{packetsOf}
+use Rattle.capacity.specs.Demand.{continuesOf}
+use Rattle.capacity.proofs.Written.{count-of-packets}
+
+pub continues-kind : (i k m : ℕ) → All (Kind 3) (continuesOf i k m)
+unfolding continuesOf
+continues-kind i zero m = tt
+continues-kind i (suc k) m = (refl, continues-kind (suc i) k (m - 184))
+
+pub part-inside : (m : ℕ) → 188 - min 184 m + min 184 m ≤ 188
+part-inside m = omega arith
+
+pub continues-inside : (ps : List (List ℕ)) (i k m : ℕ) → i + k ≤ length ps → All (Inside ps) (continuesOf i k m)
+unfolding continuesOf
+continues-inside ps i zero m h = tt
+continues-inside ps i (suc k) m h = ((omega arith, part-inside m), continues-inside ps (suc i) k (m - 184) (omega arith))
+
+module _ (ps : List (List ℕ)) (all : All IsPacket ps) (t : Standing) (ok : Good t) (some : 0 < length ps) where
+  -- what the phase gives before the begin is taken, and leaves a state that can be and the store's length
+  pub opened-taken : (f : Phase) → All Taken (answers ps t (opened f 0)) × Good (gatherAll ps t (opened f 0))
+      × (length (gatherAll ps t (opened f 0) .store) ≡ length (t .store))
+  opened-taken Begin =
+      let i : Inside ps (plain 1 0) = (some, omega arith) in
+      let a = start-leaves ps all t (plain 1 0) i refl ok in
+      let g = all-good ps all t (plain 1 0 ∷ []) ((omega arith, omega arith), tt) (i, tt) ok in
+      ((a .0, tt), g .0, g .1)
+  opened-taken Started =
+      let i : Inside ps (plain 4 0) = (some, omega arith) in
+      let a = end-keeps ps all t (plain 4 0) i refl ok in
+      let g = all-good ps all t (plain 4 0 ∷ []) ((omega arith, omega arith), tt) (i, tt) ok in
+      ((a .0, tt), g .0, g .1)
+  opened-taken IgnoreRest = (tt, ok, refl)
+
+pub long-enough : (r : Route) (u : Unit) (payload : List ℕ) → 1 + (countOf u (length payload) - 1) ≤ length (packetsOf r u payload)
+unfolding countOf
+long-enough r u payload = omega (arith, count-of-packets r u payload)
