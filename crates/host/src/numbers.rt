@@ -33,5 +33,13 @@ pub const LOG_FULL: u32 = 15;
 
 pub const INDEX_FULL: u32 = 16;
 
+pub const BAD_FIELD: u32 = 17;
+
+pub const TOO_LONG: u32 = 18;
+
+pub const NO_ROOM: u32 = 19;
+
+pub const STORE_FULL: u32 = 20;
+
 // Two numbers of an answer.
 pub struct Pair(pub u64, pub u64);

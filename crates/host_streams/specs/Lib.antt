@@ -1,1 +1,3 @@
+pub mod Gatherings
 pub mod Machines
+pub mod Writing
