@@ -8,7 +8,7 @@ pub const MOST: usize = 8;
 /// How many numbers there are: 0 to 20.
 pub const NUMBERS: usize = 21;
 
-#[derive(Clone, Copy, Debug)]
+#[derive(Clone, Copy, Debug, PartialEq)]
 pub struct Answer {
     number: u32,
     count: usize,

@@ -1,4 +1,4 @@
-//! The oracle's machine: `PesPacketFilter::consume`, with a consumer that notes its calls. `Demultiplex::push`, which would call it,
+//! The oracle's machine: `PesPacketFilter::consume`, with a consumer that hands its calls on. `Demultiplex::push`, which would call it,
 //! drops packets by their error and scrambling bits.
 
 use crate::event::{self, Event, Events};
@@ -10,16 +10,33 @@ use mpeg2ts_reader::pes::{ElementaryStreamConsumer, PesHeader, PesPacketFilter};
 
 pub const SIZE: usize = Packet::SIZE;
 
-pub struct Oracle {
-    filter: PesPacketFilter<Context, Notes>,
-    context: Context,
+/// The machine, and who listens to it.
+pub struct Oracle<L: Listener = Notes> {
+    filter: PesPacketFilter<Context<L>, Calls>,
+    context: Context<L>,
+}
+
+impl<L: Listener> Oracle<L> {
+    /// In the state before any packet.
+    pub fn heard_by(listener: L) -> Oracle<L> {
+        let context = Context { changes: FilterChangeset::default(), listener };
+        Oracle { filter: PesPacketFilter::new(Calls), context }
+    }
+
+    /// Takes a packet of 188 bytes with a sync byte.
+    pub fn take(&mut self, packet: &[u8]) {
+        self.filter.consume(&mut self.context, &Packet::new(packet));
+    }
+
+    pub fn listener(&self) -> &L {
+        &self.context.listener
+    }
 }
 
 impl Oracle {
     /// In the state before any packet.
     pub fn new() -> Oracle {
-        let context = Context { changes: FilterChangeset::default(), address: 0, events: Events::default() };
-        Oracle { filter: PesPacketFilter::new(Notes), context }
+        Oracle::heard_by(Notes::default())
     }
 
     /// In this state, where packets can bring it there. The start of a stream sets Started, and a break sets IgnoreRest: both leave a
@@ -41,10 +58,9 @@ impl Oracle {
 
     /// The events of a packet of 188 bytes with a sync byte.
     pub fn consume(&mut self, packet: &[u8]) -> Events {
-        self.context.address = packet.as_ptr() as usize;
-        self.context.events = Events::default();
-        self.filter.consume(&mut self.context, &Packet::new(packet));
-        self.context.events
+        self.context.listener = Notes { address: packet.as_ptr() as usize, events: Events::default() };
+        self.take(packet);
+        self.context.listener.events
     }
 }
 
@@ -78,26 +94,21 @@ fn plain(counter: u8) -> [u8; SIZE] {
 
 // ---- The consumer.
 
-struct Context {
-    changes: FilterChangeset<NullPacketFilter<Context>>,
-    /// Where the packet lies, for the places of its parts.
-    address: usize,
-    events: Events,
+/// Who is told of the machine's calls.
+pub trait Listener {
+    /// A call with nothing beside it: the kind of its event.
+    fn bare(&mut self, kind: u64);
+    fn begin(&mut self, header: &PesHeader);
+    fn more(&mut self, data: &[u8]);
 }
 
-impl Context {
-    fn note(&mut self, kind: u64) {
-        self.events.push(Event::bare(kind));
-    }
-
-    fn note_part(&mut self, kind: u64, part: &[u8]) {
-        let place = (part.as_ptr() as usize).wrapping_sub(self.address);
-        self.events.push(Event { kind, place: place as u64, length: part.len() as u64 });
-    }
+struct Context<L> {
+    changes: FilterChangeset<NullPacketFilter<Context<L>>>,
+    listener: L,
 }
 
-impl DemuxContext for Context {
-    type F = NullPacketFilter<Context>;
+impl<L> DemuxContext for Context<L> {
+    type F = NullPacketFilter<Context<L>>;
 
     fn filter_changeset(&mut self) -> &mut FilterChangeset<Self::F> {
         &mut self.changes
@@ -108,26 +119,55 @@ impl DemuxContext for Context {
     }
 }
 
-struct Notes;
+struct Calls;
 
-impl ElementaryStreamConsumer<Context> for Notes {
-    fn start_stream(&mut self, context: &mut Context) {
-        context.note(event::START);
+impl<L: Listener> ElementaryStreamConsumer<Context<L>> for Calls {
+    fn start_stream(&mut self, context: &mut Context<L>) {
+        context.listener.bare(event::START);
     }
 
-    fn begin_packet(&mut self, context: &mut Context, header: PesHeader<'_>) {
-        context.note_part(event::BEGIN, header.kept());
+    fn begin_packet(&mut self, context: &mut Context<L>, header: PesHeader<'_>) {
+        context.listener.begin(&header);
     }
 
-    fn continue_packet(&mut self, context: &mut Context, data: &[u8]) {
-        context.note_part(event::CONTINUE, data);
+    fn continue_packet(&mut self, context: &mut Context<L>, data: &[u8]) {
+        context.listener.more(data);
     }
 
-    fn end_packet(&mut self, context: &mut Context) {
-        context.note(event::END);
+    fn end_packet(&mut self, context: &mut Context<L>) {
+        context.listener.bare(event::END);
     }
 
-    fn continuity_error(&mut self, context: &mut Context) {
-        context.note(event::ERROR);
+    fn continuity_error(&mut self, context: &mut Context<L>) {
+        context.listener.bare(event::ERROR);
+    }
+}
+
+/// Notes the events of one packet.
+#[derive(Default)]
+pub struct Notes {
+    /// Where the packet lies, for the places of its parts.
+    address: usize,
+    events: Events,
+}
+
+impl Notes {
+    fn part(&mut self, kind: u64, part: &[u8]) {
+        let place = (part.as_ptr() as usize).wrapping_sub(self.address);
+        self.events.push(Event { kind, place: place as u64, length: part.len() as u64 });
+    }
+}
+
+impl Listener for Notes {
+    fn bare(&mut self, kind: u64) {
+        self.events.push(Event::bare(kind));
+    }
+
+    fn begin(&mut self, header: &PesHeader) {
+        self.part(event::BEGIN, header.kept());
+    }
+
+    fn more(&mut self, data: &[u8]) {
+        self.part(event::CONTINUE, data);
     }
 }

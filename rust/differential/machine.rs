@@ -167,7 +167,7 @@ impl Cases {
         let phase = phase_before(&oracle.consume(&start(last + 1))).expect("the packet's counter is the last");
         let told = Happened { events, phase, last };
         let input = || format!("{state:?}, {}", text(packet));
-        self.rules.take_oracle(&Answer::done(&[]), told == ruled, input, || format!("{told:?}, {ruled:?}"));
+        self.rules.take_check(&Answer::done(&[]), told == ruled, input, || format!("{told:?}, {ruled:?}"));
         told
     }
 
@@ -247,8 +247,17 @@ fn packet(header: [u8; 4], head: [u8; 6]) -> [u8; SIZE] {
 
 /// Writes this where the payload begins, as far as the packet goes.
 pub fn set_head(packet: &mut [u8], head: [u8; 6]) {
-    let at = if packet[3] & 0x20 != 0 { 5 + usize::from(packet[4]) } else { 4 };
+    let at = payload_at(packet);
     packet.iter_mut().skip(at).zip(head).for_each(|(byte, of_head)| *byte = of_head);
+}
+
+/// Where a payload would begin.
+pub fn payload_at(packet: &[u8]) -> usize {
+    if packet[3] & 0x20 != 0 {
+        5 + usize::from(packet[4])
+    } else {
+        4
+    }
 }
 
 /// Packets with no event, with one and with two, in a state with no last counter or with 15.

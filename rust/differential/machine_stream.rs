@@ -2,14 +2,13 @@
 
 use crate::consumer::{Oracle, SIZE};
 use crate::event::{self, ENTRY};
+use crate::files::Files;
 use crate::host_machine::{log_entry_at, State, IGNORE_REST, RUN, STARTED, STEP};
 use crate::lent::Lent;
 use crate::machine::{entry_answer, set_head, Call};
-use crate::pids::by_pid;
+use crate::report;
 use crate::rng::Rng;
-use crate::stream::read;
 use crate::tally::{grouped, Tally};
-use crate::total;
 use mpeg2ts_reader::packet::Packet;
 use std::time::Instant;
 
@@ -44,38 +43,10 @@ pub fn compare_random(count: u64, rng: &mut Rng) -> Vec<Tally> {
 /// function, and for all.
 pub fn compare_files(files: &[String]) -> bool {
     let began = Instant::now();
-    let Some(contents) = files.iter().map(|file| read(file)).collect::<Option<Vec<_>>>() else { return false };
-    // A damaged copy has more packets than its file, but not twice as many.
-    let most = contents.iter().map(Vec::len).max().unwrap_or(0) / SIZE * 2;
-    let mut walk = Walk::new(most, [&[]; 3]);
-    for (file, bytes) in files.iter().zip(&contents) {
-        let mut rng = Rng::new(bytes.len() as u64);
-        let copy = damaged(bytes, &mut rng);
-        walk.file(file, bytes, &mut rng);
-        walk.file(&format!("{file}, a damaged copy"), &copy, &mut rng);
-    }
-    let tallies = walk.into_tallies();
-    tallies.iter().for_each(|tally| println!("{tally}"));
-    total("events", began, tallies.iter());
-    tallies.iter().all(|tally| tally.differ() == 0)
-}
-
-/// Of a hundred packets one is lost, one repeated, one exchanged with the one before it and three have bits changed, in their first
-/// bytes but not in the sync byte.
-fn damaged(bytes: &[u8], rng: &mut Rng) -> Vec<u8> {
-    let mut copy = vec![];
-    for packet in bytes.chunks_exact(SIZE) {
-        let (mut packet, len) = (packet.to_vec(), copy.len());
-        match rng.below(100) {
-            0 => continue,
-            1 => copy.extend_from_within(len.saturating_sub(SIZE)..),
-            2 if len > 0 => packet = copy.splice(len - SIZE.., packet).collect(),
-            3..=5 => (0..=rng.below(3)).for_each(|_| packet[1 + rng.below(23)] ^= 1 << rng.below(8)),
-            _ => (),
-        }
-        copy.extend(packet);
-    }
-    copy
+    let Some(files) = Files::read(files) else { return false };
+    let mut walk = Walk::new(files.most(), [&[]; 3]);
+    files.each(|stream, rng| walk.stream(stream, State::FIRST, rng));
+    report("events", began, &walk.into_tallies())
 }
 
 // ---- What the oracle tells of a stream.
@@ -166,12 +137,6 @@ impl Walk {
             filling,
             taken: 0,
         }
-    }
-
-    fn file(&mut self, name: &str, bytes: &[u8], rng: &mut Rng) {
-        let streams = by_pid(bytes);
-        streams.values().for_each(|stream| self.stream(stream, State::FIRST, rng));
-        println!("{name}: {} packets of {} PIDs", grouped((bytes.len() / SIZE) as u64), streams.len());
     }
 
     fn stream(&mut self, packets: &[u8], first: State, rng: &mut Rng) {
@@ -311,7 +276,7 @@ const HEADS: [[u8; 3]; 8] = [[0, 0, 1], [0, 0, 1], [0, 0, 1], [0, 0, 1], [0, 0, 
 const LENGTHS: [u8; 8] = [0, 1, 177, 178, 182, 183, 184, 255];
 
 /// Gives each packet a header of its own, and most of those with the start flag a head; the other bytes stay.
-fn make_stream(packets: &mut [u8], rng: &mut Rng) {
+pub fn make_stream(packets: &mut [u8], rng: &mut Rng) {
     let mut last = 0;
     for packet in packets.chunks_exact_mut(SIZE) {
         let (random, choice) = (rng.next().to_le_bytes(), rng.next());

@@ -4,6 +4,7 @@
 //!     differential record DIR      writes a fixed sample of the oracle's answers to DIR/stdin and DIR/stdout
 //!     differential stream FILE..   compares on every packet of transport streams
 //!     differential events FILE..   compares the events of transport streams, a machine for each PID, and of damaged copies
+//!     differential gather FILE..   compares what is gathered from transport streams, a store for each PID, and from damaged copies
 //!     differential fields FILE     lists what the library reads of each packet of a transport stream
 //!
 //! Exit status: 0 where all agreed; 1 where something differs or was not compared at all; 2 for a wrong command line.
@@ -18,10 +19,18 @@ mod contents;
 mod control;
 mod event;
 mod fields;
+mod files;
 mod function;
+mod gather;
+mod gather_rules;
+mod gather_stream;
+mod gatherer;
 mod head;
 mod host;
+mod host_gather;
 mod host_machine;
+mod host_writer;
+mod image;
 mod kept;
 mod lent;
 mod machine;
@@ -38,7 +47,10 @@ mod slice;
 mod stream;
 mod tally;
 mod timestamp;
+mod unit;
 mod values;
+mod writer;
+mod written;
 
 use module::{Module, Plan};
 use record::Sample;
@@ -47,7 +59,7 @@ use std::time::Instant;
 use tally::{grouped, Tally};
 
 /// The modules, in the order of their codes.
-const MODULES: [Module; 7] = [
+const MODULES: [Module; 9] = [
     timestamp::MODULE,
     control::MODULE,
     packet::MODULE,
@@ -55,11 +67,13 @@ const MODULES: [Module; 7] = [
     head::MODULE,
     contents::MODULE,
     machine::MODULE,
+    writer::MODULE,
+    gather::MODULE,
 ];
 
 const SEED: u64 = 1;
 const USAGE: &str = "usage: differential [--count N] [--seed S] [--only MODULE] | differential record DIR \
-    | differential stream FILE.. | differential events FILE.. | differential fields FILE";
+    | differential stream FILE.. | differential events FILE.. | differential gather FILE.. | differential fields FILE";
 
 /// What is compared: with `count` random answers a module, or as many as the module has set.
 struct Options {
@@ -87,6 +101,7 @@ fn run(words: &[String]) -> Option<bool> {
         [word, dir] if word == "record" => Some(record(dir)),
         [word, files @ ..] if word == "stream" && !files.is_empty() => Some(stream::compare(files)),
         [word, files @ ..] if word == "events" && !files.is_empty() => Some(machine_stream::compare_files(files)),
+        [word, files @ ..] if word == "gather" && !files.is_empty() => Some(gather_stream::compare_files(files)),
         [word, file] if word == "fields" => Some(fields::list(file)),
         words => Some(compare(&options(words)?)),
     }
@@ -121,9 +136,15 @@ fn compare_module(module: &Module, options: &Options) -> Vec<Tally> {
     let plan = Plan { count: options.count.unwrap_or(module.count), seed: options.seed };
     println!("{}: {} random answers, beside what is always compared", module.name, grouped(plan.count));
     let tallies = (module.compare)(&plan);
-    tallies.iter().for_each(|tally| println!("{tally}"));
-    total(module.name, began, tallies.iter());
+    report(module.name, began, &tallies);
     tallies
+}
+
+/// Prints a line for each function and one for all, and says whether nothing differs.
+fn report(name: &str, began: Instant, tallies: &[Tally]) -> bool {
+    tallies.iter().for_each(|tally| println!("{tally}"));
+    total(name, began, tallies.iter());
+    tallies.iter().all(|tally| tally.differ() == 0)
 }
 
 /// Prints what was compared in all, and how long it took.

@@ -23,7 +23,7 @@ pub fn compare<T: Copy + Debug, R>(
         let panicked = panic::catch_unwind(AssertUnwindSafe(|| oracle(input))).is_err();
         let expected = answer(input);
         let agrees = panicked == (expected.number() != 0);
-        tally.take_oracle(&expected, agrees, || format!("{input:?}"), || format!("a panic: {panicked}"));
+        tally.take_check(&expected, agrees, || format!("{input:?}"), || format!("a panic: {panicked}"));
     }
     panic::set_hook(hook);
     tally

@@ -37,9 +37,14 @@ impl Reading {
         &self.library
     }
 
+    /// The oracle's answer.
+    pub fn oracle(&self, bytes: &[u8]) -> Answer {
+        (self.answer)(bytes)
+    }
+
     fn compare(&self, tally: &mut Tally, lent: &mut Lent, bytes: &[u8], guard: u8) {
         let input = || format!("[{}] between {guard:02x}", hex(bytes));
-        tally.call_lent(&(self.answer)(bytes), lent, &self.library, input);
+        tally.call_lent(&self.oracle(bytes), lent, &self.library, input);
     }
 }
 
@@ -95,7 +100,7 @@ impl Readings {
 pub fn record(sample: &mut Sample, readings: &[Reading], slices: impl Iterator<Item = impl Deref<Target = [u8]>>) {
     for slice in slices {
         for reading in readings {
-            sample.add(reading.code, &slice, &(reading.answer)(&slice));
+            sample.add(reading.code, &slice, &reading.oracle(&slice));
         }
     }
 }

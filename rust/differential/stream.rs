@@ -3,7 +3,7 @@
 use crate::kept::Keeps;
 use crate::reading::Readings;
 use crate::tally::{grouped, Tally};
-use crate::{adaptation, contents, head, packet, total};
+use crate::{adaptation, contents, head, packet, report};
 use mpeg2ts_reader::packet::{AdaptationField, Packet};
 use std::fs;
 use std::time::Instant;
@@ -16,10 +16,7 @@ pub fn compare(files: &[String]) -> bool {
     let began = Instant::now();
     let mut walk = Walk::new();
     let read = files.iter().all(|file| walk.file(file));
-    let tallies = walk.into_tallies();
-    tallies.iter().for_each(|tally| println!("{tally}"));
-    total("streams", began, tallies.iter());
-    read && tallies.iter().all(|tally| tally.differ() == 0)
+    report("streams", began, &walk.into_tallies()) && read
 }
 
 /// The bytes of a file, or nothing and a word about it.

@@ -15,7 +15,7 @@ pub struct Given<'a> {
     /// The out numbers before the call and after it: a refusal leaves them as they were.
     pub held: &'a [u64],
     pub outs: &'a [u64],
-    /// Whether every byte that was lent for reading, and every byte around it, is as it was.
+    /// Whether every byte that was lent, and every byte around it, is as it was or as it is to be written.
     pub unchanged: bool,
 }
 
@@ -44,26 +44,32 @@ pub struct Tally {
     compared: u64,
     by_number: [u64; NUMBERS],
     differ: u64,
-    of_oracle: bool,
+    /// Whether what is compared is an answer of the library.
+    answers: bool,
 }
 
 impl Tally {
     /// A tally of the function `name`; each number of `must` has to be among the answers, or too little was compared.
     pub fn new(name: &str, must: &'static [usize]) -> Tally {
-        Tally { name: name.to_string(), must, compared: 0, by_number: [0; NUMBERS], differ: 0, of_oracle: false }
+        Tally { name: name.to_string(), must, compared: 0, by_number: [0; NUMBERS], differ: 0, answers: true }
     }
 
     /// A tally of what is expected of the oracle itself: where it panics, and which slices it keeps.
     pub fn of_oracle(name: &str, must: &'static [usize]) -> Tally {
-        Tally { of_oracle: true, ..Tally::new(name, must) }
+        Tally { answers: false, ..Tally::new(name, must) }
+    }
+
+    /// A tally of what the oracle makes of bytes that the library wrote or gathered.
+    pub fn of_bytes(name: &str, must: &'static [usize]) -> Tally {
+        Tally::of_oracle(name, must)
     }
 
     /// The answers of the library that were compared.
     pub fn compared(&self) -> u64 {
-        if self.of_oracle {
-            0
-        } else {
+        if self.answers {
             self.compared
+        } else {
+            0
         }
     }
 
@@ -83,10 +89,20 @@ impl Tally {
         entry: impl FnOnce(&mut [u64; N]) -> u32,
         input: impl FnOnce() -> String,
     ) {
+        self.call_lending(expected, |outs| (entry(outs), true), input);
+    }
+
+    /// The same of an entry to which bytes are lent too: beside its word, whether all of them are afterwards what they are to be.
+    pub fn call_lending<const N: usize>(
+        &mut self,
+        expected: &Answer,
+        entry: impl FnOnce(&mut [u64; N]) -> (u32, bool),
+        input: impl FnOnce() -> String,
+    ) {
         let held: [u64; N] = std::array::from_fn(|nth| self.held(nth));
         let mut outs = held;
-        let word = entry(&mut outs);
-        self.take(expected, &Given { word, held: &held, outs: &outs, unchanged: true }, input);
+        let (word, unchanged) = entry(&mut outs);
+        self.take(expected, &Given { word, held: &held, outs: &outs, unchanged }, input);
     }
 
     /// Calls an entry that reads a lent slice, and counts its answer.
@@ -106,8 +122,8 @@ impl Tally {
         }
     }
 
-    /// Counts whether the oracle is as it is expected to be.
-    pub fn take_oracle(
+    /// Counts whether something is as it is expected to be: the oracle itself, or what it makes of the library's bytes.
+    pub fn take_check(
         &mut self,
         expected: &Answer,
         agrees: bool,

@@ -3,6 +3,7 @@
 //!     measure FUNCTION SIDE INPUTS CALLS
 //!     measure functions      lists the functions
 //!     measure recording SIDE FILE ROUNDS     the event machine over a recording: recording.rs
+//!     measure units FUNCTION SIDE ROUNDS     the writer and the gathering store: units.rs
 //!
 //! SIDE is `library`, `rust` (the oracle, giving its answer in the library's form) or `none` (an empty function: what the loop itself
 //! costs). INPUTS are `accepted` or `mixed`, the latter with refused ones among them; none is such that the Rust panics. Prints a sum
@@ -15,9 +16,14 @@
 #[allow(dead_code)]
 mod event;
 mod header;
+#[path = "../differential/host_gather.rs"]
+#[allow(dead_code)]
+mod host_gather;
 #[path = "../differential/host_machine.rs"]
 #[allow(dead_code)]
 mod host_machine;
+#[path = "../differential/host_writer.rs"]
+mod host_writer;
 #[path = "../differential/kept.rs"]
 #[allow(dead_code)]
 mod kept;
@@ -30,6 +36,7 @@ mod recording;
 mod rng;
 mod sum;
 mod timestamp;
+mod units;
 #[path = "../differential/values.rs"]
 mod values;
 
@@ -107,6 +114,7 @@ fn answer(words: &[String]) -> Option<String> {
     match words {
         [word] if word == "functions" => Some(FUNCTIONS.map(|function| function.name).join("\n")),
         [word, words @ ..] if word == "recording" => recording::answer(words),
+        [word, words @ ..] if word == "units" => units::answer(words),
         words => measure(words).map(|sum| format!("{sum:016x}")),
     }
 }
@@ -122,7 +130,7 @@ pub extern "C" fn main(_argc: i32, _argv: *const *const u8) -> i32 {
         None => {
             eprintln!(
                 "usage: measure FUNCTION library|rust|none accepted|mixed CALLS | measure functions \
-                | measure recording library|rust|none FILE ROUNDS"
+                | measure recording library|rust|none FILE ROUNDS | measure units write|continue library|rust|none ROUNDS"
             );
             2
         }

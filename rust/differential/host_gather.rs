@@ -1,0 +1,79 @@
+//! The C interface of the gathering store, and safe calls of it.
+//!
+//! A state is three numbers that the caller keeps and lends. Nothing checks these declarations against the library's source: they
+//! have to be kept equal by hand.
+
+use crate::event::Event;
+
+extern "C" {
+    fn cmv_gather(
+        opened: *mut u8,
+        count: *mut usize,
+        lies: *mut u8,
+        packet: *const u8,
+        packet_len: usize,
+        kind: u8,
+        place: u8,
+        length: u8,
+        store: *mut u8,
+        store_len: usize,
+    ) -> u32;
+
+    fn cmv_gather_bytes(
+        opened: u8,
+        count: usize,
+        lies: u8,
+        packet: *const u8,
+        packet_len: usize,
+        store: *const u8,
+        store_len: usize,
+        slice: *mut u64,
+        place: *mut u64,
+        length: *mut u64,
+    ) -> u32;
+}
+
+/// Where the bytes lie, if not at a place of the packet: in the store.
+pub const STORE: u8 = 255;
+
+#[derive(Clone, Copy, Debug)]
+pub struct Gathering {
+    /// Whether a unit is open: 0 or 1.
+    pub opened: u8,
+    pub count: usize,
+    /// A place of the packet, or the store.
+    pub lies: u8,
+}
+
+impl Gathering {
+    /// The state before any event.
+    pub const FIRST: Gathering = Gathering { opened: 0, count: 0, lies: STORE };
+
+    pub fn numbers(&self) -> [u64; 3] {
+        [self.opened.into(), self.count as u64, self.lies.into()]
+    }
+
+    /// Has the library take an event, whose numbers are below 256. It only reads the packet, which is taken as `&mut` here, so that
+    /// the compiler expects a write and the caller's check that there was none is a true one.
+    pub fn gather(&mut self, packet: &mut [u8], event: Event, store: &mut [u8]) -> u32 {
+        let Gathering { opened, count, lies } = self;
+        let [kind, place, length] = [event.kind, event.place, event.length].map(|number| number as u8);
+        let (packet, packet_len) = (packet.as_mut_ptr(), packet.len());
+        // The pointers and the lengths are those of live numbers and slices, no two of which share a byte: all that the entry asks.
+        unsafe {
+            cmv_gather(opened, count, lies, packet, packet_len, kind, place, length, store.as_mut_ptr(), store.len())
+        }
+    }
+
+    /// Asks the library where the bytes so far are: in the packet, 0, or in the store, 1; their place and length. Both slices are only
+    /// read; they are `&mut` for the same reason.
+    pub fn bytes(&self, packet: &mut [u8], store: &mut [u8], [slice, place, length]: &mut [u64; 3]) -> u32 {
+        let Gathering { opened, count, lies } = *self;
+        let (packet, packet_len) = (packet.as_mut_ptr(), packet.len());
+        // The pointers and the lengths are those of live slices, and the out numbers are live: all that the entry asks.
+        unsafe {
+            let (store, store_len) = (store.as_mut_ptr(), store.len());
+            cmv_gather_bytes(opened, count, lies, packet, packet_len, store, store_len, slice, place, length)
+        }
+    }
+}
