@@ -78,7 +78,7 @@ say_oracle() {
 need_rust() { # NAME
     local name=$1 archive=$target/$1/lib$1.a rustc
     need_oracle
-    up_to_date "$archive" "$top/rust" "$target/oracle/mode" && return
+    up_to_date "$archive" "$top/rust/$name" "$target/oracle/mode" && return
     rustc=$(find_rustc)
     mkdir -p "$target/$name"
     "$rustc" --target "$triple" --crate-name "$name" --crate-type staticlib --edition 2021 -C opt-level=3 \

@@ -1,0 +1,459 @@
+//! The functions of the library, and safe calls of them: the only unsafe code of this crate.
+//!
+//! A Rattle `&[u8]` is two C arguments, pointer and length; a `&mut` number is a pointer. The declarations are made from the library's
+//! sources by tools/header, and a test of the repository fails where they differ.
+
+#![allow(unsafe_code)]
+
+use crate::error::Error;
+use crate::gather::Gathering;
+use crate::machine::Machine;
+use crate::writer::{Numbers, Unit};
+
+// ---- made by tools/header
+#[rustfmt::skip]
+extern "C" {
+    fn cmv_clock_ref_from_slice(buf: *const u8, buf_len: usize, base: *mut u64, extension: *mut u64) -> u32;
+    fn cmv_clock_ref_from_parts(b: u64, e: u16, base: *mut u64, extension: *mut u64) -> u32;
+    fn cmv_clock_ref_into_u64(base: u64, extension: u16, number: *mut u64) -> u32;
+    fn cmv_clock_ref_eq(base: u64, extension: u16, base2: u64, extension2: u16, same: *mut u64) -> u32;
+    fn cmv_continuity_counter_new(count: u8, value: *mut u64) -> u32;
+    fn cmv_continuity_counter_follows(count: u8, other: u8, follows: *mut u64) -> u32;
+    fn cmv_pid_new(pid: u16, value: *mut u64) -> u32;
+    fn cmv_pid_try_from(pid: u16, value: *mut u64) -> u32;
+    fn cmv_adaptation_control(byte: u8, field: *mut u64, payload: *mut u64) -> u32;
+    fn cmv_transport_scrambling_control(byte: u8, scrambled: *mut u64, scheme: *mut u64) -> u32;
+    fn cmv_control_constants(max: *mut u64, count: *mut u64) -> u32;
+    fn cmv_adaptation_field_discontinuity_indicator(buf: *const u8, buf_len: usize, value: *mut u64) -> u32;
+    fn cmv_adaptation_field_random_access_indicator(buf: *const u8, buf_len: usize, value: *mut u64) -> u32;
+    fn cmv_adaptation_field_elementary_stream_priority_indicator(
+        buf: *const u8,
+        buf_len: usize,
+        value: *mut u64,
+    ) -> u32;
+    fn cmv_adaptation_field_pcr(buf: *const u8, buf_len: usize, base: *mut u64, extension: *mut u64) -> u32;
+    fn cmv_adaptation_field_opcr(buf: *const u8, buf_len: usize, base: *mut u64, extension: *mut u64) -> u32;
+    fn cmv_adaptation_field_splice_countdown(buf: *const u8, buf_len: usize, value: *mut u64) -> u32;
+    fn cmv_adaptation_field_transport_private_data(
+        buf: *const u8,
+        buf_len: usize,
+        place: *mut u64,
+        length: *mut u64,
+    ) -> u32;
+    fn cmv_adaptation_field_extension(buf: *const u8, buf_len: usize, place: *mut u64, length: *mut u64) -> u32;
+    fn cmv_adaptation_extension_ltw_offset(buf: *const u8, buf_len: usize, kind: *mut u64, offset: *mut u64) -> u32;
+    fn cmv_adaptation_extension_piecewise_rate(buf: *const u8, buf_len: usize, value: *mut u64) -> u32;
+    fn cmv_adaptation_extension_seamless_splice(buf: *const u8, buf_len: usize, splice: *mut u64, dts: *mut u64) -> u32;
+    fn cmv_pes_header_from_bytes(buf: *const u8, buf_len: usize) -> u32;
+    fn cmv_pes_header_stream_id(buf: *const u8, buf_len: usize, kind: *mut u64, low: *mut u64) -> u32;
+    fn cmv_pes_header_pes_packet_length(buf: *const u8, buf_len: usize, kind: *mut u64, length: *mut u64) -> u32;
+    fn cmv_pes_header_contents(
+        buf: *const u8,
+        buf_len: usize,
+        kind: *mut u64,
+        place: *mut u64,
+        length: *mut u64,
+    ) -> u32;
+    fn cmv_packet_is_sync_byte(b: u8, is: *mut u64) -> u32;
+    fn cmv_packet_try_new(buf: *const u8, buf_len: usize) -> u32;
+    fn cmv_packet_transport_error_indicator(buf: *const u8, buf_len: usize, value: *mut u64) -> u32;
+    fn cmv_packet_payload_unit_start_indicator(buf: *const u8, buf_len: usize, value: *mut u64) -> u32;
+    fn cmv_packet_transport_priority(buf: *const u8, buf_len: usize, value: *mut u64) -> u32;
+    fn cmv_packet_pid(buf: *const u8, buf_len: usize, value: *mut u64) -> u32;
+    fn cmv_packet_transport_scrambling_control(
+        buf: *const u8,
+        buf_len: usize,
+        scrambled: *mut u64,
+        scheme: *mut u64,
+    ) -> u32;
+    fn cmv_packet_adaptation_control(buf: *const u8, buf_len: usize, field: *mut u64, payload: *mut u64) -> u32;
+    fn cmv_packet_continuity_counter(buf: *const u8, buf_len: usize, value: *mut u64) -> u32;
+    fn cmv_packet_adaptation_field(buf: *const u8, buf_len: usize, place: *mut u64, length: *mut u64) -> u32;
+    fn cmv_packet_payload(buf: *const u8, buf_len: usize, place: *mut u64, length: *mut u64) -> u32;
+    fn cmv_packet_constants(sync: *mut u64, size: *mut u64) -> u32;
+    fn cmv_pes_contents_from_bytes(buf: *const u8, buf_len: usize) -> u32;
+    fn cmv_pes_contents_pes_priority(buf: *const u8, buf_len: usize, value: *mut u64) -> u32;
+    fn cmv_pes_contents_pes_scrambling_control(buf: *const u8, buf_len: usize, value: *mut u64) -> u32;
+    fn cmv_pes_contents_flags(buf: *const u8, buf_len: usize, value: *mut u64) -> u32;
+    fn cmv_pes_contents_pes_header_data_len(buf: *const u8, buf_len: usize, value: *mut u64) -> u32;
+    fn cmv_pes_contents_data_alignment_indicator(buf: *const u8, buf_len: usize, value: *mut u64) -> u32;
+    fn cmv_pes_contents_copyright(buf: *const u8, buf_len: usize, value: *mut u64) -> u32;
+    fn cmv_pes_contents_original_or_copy(buf: *const u8, buf_len: usize, value: *mut u64) -> u32;
+    fn cmv_pes_contents_pts_dts(
+        buf: *const u8,
+        buf_len: usize,
+        kind: *mut u64,
+        ptsnumber: *mut u64,
+        pts: *mut u64,
+        dtsnumber: *mut u64,
+        dts: *mut u64,
+    ) -> u32;
+    fn cmv_pes_contents_escr(buf: *const u8, buf_len: usize, base: *mut u64, extension: *mut u64) -> u32;
+    fn cmv_pes_contents_es_rate(buf: *const u8, buf_len: usize, value: *mut u64) -> u32;
+    fn cmv_pes_contents_dsm_trick_mode(
+        buf: *const u8,
+        buf_len: usize,
+        kind: *mut u64,
+        first: *mut u64,
+        second: *mut u64,
+        third: *mut u64,
+    ) -> u32;
+    fn cmv_pes_contents_raw_trick_mode(buf: *const u8, buf_len: usize, value: *mut u64) -> u32;
+    fn cmv_pes_contents_additional_copy_info(buf: *const u8, buf_len: usize, value: *mut u64) -> u32;
+    fn cmv_pes_contents_previous_pes_packet_crc(buf: *const u8, buf_len: usize, value: *mut u64) -> u32;
+    fn cmv_pes_contents_pes_extension(buf: *const u8, buf_len: usize, place: *mut u64, length: *mut u64) -> u32;
+    fn cmv_pes_contents_payload(buf: *const u8, buf_len: usize, place: *mut u64, length: *mut u64) -> u32;
+    fn cmv_es_rate_new(rate: u32, value: *mut u64) -> u32;
+    fn cmv_es_rate_bytes_per_second(rate: u32, value: *mut u64) -> u32;
+    fn cmv_timestamp_from_pts_bytes(buf: *const u8, buf_len: usize, value: *mut u64) -> u32;
+    fn cmv_timestamp_from_dts_bytes(buf: *const u8, buf_len: usize, value: *mut u64) -> u32;
+    fn cmv_timestamp_from_bytes(buf: *const u8, buf_len: usize, value: *mut u64) -> u32;
+    fn cmv_timestamp_from_u64(val: u64, value: *mut u64) -> u32;
+    fn cmv_timestamp_likely_wrapped_since(val: u64, since: u64, wrapped: *mut u64) -> u32;
+    fn cmv_timestamp_constants(max: *mut u64, timebase: *mut u64) -> u32;
+    fn cmv_gather(
+        opened: *mut u8,
+        count: *mut usize,
+        lies: *mut u8,
+        packet: *const u8,
+        packet_len: usize,
+        kind: u8,
+        place: u8,
+        length: u8,
+        store: *mut u8,
+        store_len: usize,
+    ) -> u32;
+    fn cmv_gather_bytes(
+        opened: u8,
+        count: usize,
+        lies: u8,
+        packet: *const u8,
+        packet_len: usize,
+        store: *const u8,
+        store_len: usize,
+        slice: *mut u64,
+        place: *mut u64,
+        length: *mut u64,
+    ) -> u32;
+    fn cmv_machine_step(
+        phase: *mut u8,
+        last: *mut u8,
+        taken: *mut u32,
+        place: *mut usize,
+        packet: *const u8,
+        packet_len: usize,
+        log: *mut u8,
+        log_len: usize,
+    ) -> u32;
+    fn cmv_machine_run(
+        phase: *mut u8,
+        last: *mut u8,
+        taken: *mut u32,
+        place: *mut usize,
+        bytes: *const u8,
+        bytes_len: usize,
+        log: *mut u8,
+        log_len: usize,
+    ) -> u32;
+    fn cmv_log_entry_at(
+        log: *const u8,
+        log_len: usize,
+        at: usize,
+        kind: *mut u64,
+        index: *mut u64,
+        place: *mut u64,
+        length: *mut u64,
+    ) -> u32;
+    fn cmv_write(
+        pid: u16,
+        counter: u8,
+        id: u8,
+        bounded: u8,
+        priority: u8,
+        alignment: u8,
+        copyright: u8,
+        original: u8,
+        times: u8,
+        pts: u64,
+        dts: u64,
+        escr_there: u8,
+        escr_base: u64,
+        escr_extension: u16,
+        rate_there: u8,
+        rate: u32,
+        trick_there: u8,
+        trick: u8,
+        copy_there: u8,
+        copy: u8,
+        crc_there: u8,
+        crc: u16,
+        payload: *const u8,
+        payload_len: usize,
+        out: *mut u8,
+        out_len: usize,
+        count: *mut u64,
+    ) -> u32;
+}
+// ---- end of what tools/header makes
+
+/// The out numbers, or the refusal that the word says.
+fn told<T>(word: u32, outs: T) -> Result<T, Error> {
+    match Error::from_word(word) {
+        None => Ok(outs),
+        Some(error) => Err(error),
+    }
+}
+
+/// Makes a safe function of each entry that reads a slice and has only out numbers beside it.
+macro_rules! readers {
+    ($($function:ident = $entry:ident($($out:ident),*);)*) => {
+        $(pub fn $function(buf: &[u8]) -> Result<[u64; <[&str]>::len(&[$(stringify!($out)),*])], Error> {
+            $(let mut $out = 0;)*
+            // SAFETY: the pointer and the length are those of a live slice, and the out numbers are live: all that the entry asks.
+            let word = unsafe { $entry(buf.as_ptr(), buf.len() $(, &mut $out)*) };
+            told(word, [$($out),*])
+        })*
+    };
+}
+
+/// Makes a safe function of each entry on numbers.
+macro_rules! functions {
+    ($($function:ident = $entry:ident($($number:ident: $kind:ty),* => $($out:ident),*);)*) => {
+        $(pub fn $function($($number: $kind),*) -> Result<[u64; <[&str]>::len(&[$(stringify!($out)),*])], Error> {
+            $(let mut $out = 0;)*
+            // SAFETY: the out numbers are live: all that the entry asks.
+            let word = unsafe { $entry($($number,)* $(&mut $out),*) };
+            told(word, [$($out),*])
+        })*
+    };
+}
+
+// ---- Timestamps.
+
+readers! {
+    timestamp_from_pts_bytes = cmv_timestamp_from_pts_bytes(value);
+    timestamp_from_dts_bytes = cmv_timestamp_from_dts_bytes(value);
+    timestamp_from_bytes = cmv_timestamp_from_bytes(value);
+}
+
+functions! {
+    timestamp_from_u64 = cmv_timestamp_from_u64(val: u64 => value);
+    timestamp_likely_wrapped_since = cmv_timestamp_likely_wrapped_since(val: u64, since: u64 => wrapped);
+}
+
+// ---- Clock references, counters, PIDs and the control bits.
+
+readers! {
+    clock_ref_from_slice = cmv_clock_ref_from_slice(base, extension);
+}
+
+functions! {
+    clock_ref_from_parts = cmv_clock_ref_from_parts(b: u64, e: u16 => base, extension);
+    clock_ref_into_u64 = cmv_clock_ref_into_u64(base: u64, extension: u16 => number);
+    clock_ref_eq = cmv_clock_ref_eq(base: u64, extension: u16, base2: u64, extension2: u16 => same);
+    continuity_counter_new = cmv_continuity_counter_new(count: u8 => value);
+    continuity_counter_follows = cmv_continuity_counter_follows(count: u8, other: u8 => follows);
+    pid_new = cmv_pid_new(pid: u16 => value);
+    pid_try_from = cmv_pid_try_from(pid: u16 => value);
+    adaptation_control = cmv_adaptation_control(byte: u8 => field, payload);
+    transport_scrambling_control = cmv_transport_scrambling_control(byte: u8 => scrambled, scheme);
+}
+
+// ---- Packets.
+
+readers! {
+    packet_try_new = cmv_packet_try_new();
+    packet_transport_error_indicator = cmv_packet_transport_error_indicator(value);
+    packet_payload_unit_start_indicator = cmv_packet_payload_unit_start_indicator(value);
+    packet_transport_priority = cmv_packet_transport_priority(value);
+    packet_pid = cmv_packet_pid(value);
+    packet_transport_scrambling_control = cmv_packet_transport_scrambling_control(scrambled, scheme);
+    packet_adaptation_control = cmv_packet_adaptation_control(field, payload);
+    packet_continuity_counter = cmv_packet_continuity_counter(value);
+    packet_adaptation_field = cmv_packet_adaptation_field(place, length);
+    packet_payload = cmv_packet_payload(place, length);
+}
+
+functions! {
+    packet_is_sync_byte = cmv_packet_is_sync_byte(b: u8 => is);
+}
+
+// ---- Adaptation fields and their extensions.
+
+readers! {
+    adaptation_field_discontinuity_indicator = cmv_adaptation_field_discontinuity_indicator(value);
+    adaptation_field_random_access_indicator = cmv_adaptation_field_random_access_indicator(value);
+    adaptation_field_elementary_stream_priority_indicator =
+        cmv_adaptation_field_elementary_stream_priority_indicator(value);
+    adaptation_field_pcr = cmv_adaptation_field_pcr(base, extension);
+    adaptation_field_opcr = cmv_adaptation_field_opcr(base, extension);
+    adaptation_field_splice_countdown = cmv_adaptation_field_splice_countdown(value);
+    adaptation_field_transport_private_data = cmv_adaptation_field_transport_private_data(place, length);
+    adaptation_field_extension = cmv_adaptation_field_extension(place, length);
+    adaptation_extension_ltw_offset = cmv_adaptation_extension_ltw_offset(kind, offset);
+    adaptation_extension_piecewise_rate = cmv_adaptation_extension_piecewise_rate(value);
+    adaptation_extension_seamless_splice = cmv_adaptation_extension_seamless_splice(splice, dts);
+}
+
+// ---- Heads of PES packets.
+
+readers! {
+    pes_header_from_bytes = cmv_pes_header_from_bytes();
+    pes_header_stream_id = cmv_pes_header_stream_id(kind, low);
+    pes_header_pes_packet_length = cmv_pes_header_pes_packet_length(kind, length);
+    pes_header_contents = cmv_pes_header_contents(kind, place, length);
+}
+
+// ---- Parsed contents of PES packets.
+
+readers! {
+    pes_contents_from_bytes = cmv_pes_contents_from_bytes();
+    pes_contents_pes_priority = cmv_pes_contents_pes_priority(value);
+    pes_contents_pes_scrambling_control = cmv_pes_contents_pes_scrambling_control(value);
+    pes_contents_flags = cmv_pes_contents_flags(value);
+    pes_contents_pes_header_data_len = cmv_pes_contents_pes_header_data_len(value);
+    pes_contents_data_alignment_indicator = cmv_pes_contents_data_alignment_indicator(value);
+    pes_contents_copyright = cmv_pes_contents_copyright(value);
+    pes_contents_original_or_copy = cmv_pes_contents_original_or_copy(value);
+    pes_contents_pts_dts = cmv_pes_contents_pts_dts(kind, ptsnumber, pts, dtsnumber, dts);
+    pes_contents_escr = cmv_pes_contents_escr(base, extension);
+    pes_contents_es_rate = cmv_pes_contents_es_rate(value);
+    pes_contents_dsm_trick_mode = cmv_pes_contents_dsm_trick_mode(kind, first, second, third);
+    pes_contents_raw_trick_mode = cmv_pes_contents_raw_trick_mode(value);
+    pes_contents_additional_copy_info = cmv_pes_contents_additional_copy_info(value);
+    pes_contents_previous_pes_packet_crc = cmv_pes_contents_previous_pes_packet_crc(value);
+    pes_contents_pes_extension = cmv_pes_contents_pes_extension(place, length);
+    pes_contents_payload = cmv_pes_contents_payload(place, length);
+}
+
+functions! {
+    es_rate_new = cmv_es_rate_new(rate: u32 => value);
+    es_rate_bytes_per_second = cmv_es_rate_bytes_per_second(rate: u32 => value);
+}
+
+// ---- The constants, which this crate has as constants of its own: its tests hold the two together.
+
+#[cfg_attr(not(test), allow(dead_code))]
+pub mod constants {
+    use super::*;
+
+    functions! {
+        timestamp = cmv_timestamp_constants(=> max, timebase);
+        control = cmv_control_constants(=> max, count);
+        packet = cmv_packet_constants(=> sync, size);
+    }
+}
+
+// ---- The event machine and its log.
+
+pub fn machine_step(machine: &mut Machine, packet: &[u8], log: &mut [u8]) -> Result<(), Error> {
+    let Machine { phase, last, taken, place } = machine;
+    // SAFETY: the pointers and the lengths are those of live numbers and slices, and what is written shares no byte with another.
+    let word = unsafe {
+        cmv_machine_step(phase, last, taken, place, packet.as_ptr(), packet.len(), log.as_mut_ptr(), log.len())
+    };
+    told(word, ())
+}
+
+pub fn machine_run(machine: &mut Machine, bytes: &[u8], log: &mut [u8]) -> Result<(), Error> {
+    let Machine { phase, last, taken, place } = machine;
+    // SAFETY: as for `machine_step`.
+    let word =
+        unsafe { cmv_machine_run(phase, last, taken, place, bytes.as_ptr(), bytes.len(), log.as_mut_ptr(), log.len()) };
+    told(word, ())
+}
+
+/// Kind, packet index, place and length.
+pub fn log_entry_at(log: &[u8], at: usize) -> Result<[u64; 4], Error> {
+    let [mut kind, mut index, mut place, mut length] = [0; 4];
+    // SAFETY: the pointer and the length are those of a live slice, and the out numbers are live.
+    let word = unsafe { cmv_log_entry_at(log.as_ptr(), log.len(), at, &mut kind, &mut index, &mut place, &mut length) };
+    told(word, [kind, index, place, length])
+}
+
+// ---- The gathering store.
+
+pub fn gather(gathering: &mut Gathering, packet: &[u8], event: [u8; 3], store: &mut [u8]) -> Result<(), Error> {
+    let Gathering { opened, count, lies } = gathering;
+    let [kind, place, length] = event;
+    // SAFETY: the pointers and the lengths are those of live numbers and slices, and what is written shares no byte with another.
+    let word = unsafe {
+        cmv_gather(
+            opened,
+            count,
+            lies,
+            packet.as_ptr(),
+            packet.len(),
+            kind,
+            place,
+            length,
+            store.as_mut_ptr(),
+            store.len(),
+        )
+    };
+    told(word, ())
+}
+
+/// The slice, 0 the packet and 1 the store, and the place and length of a part of it.
+pub fn gather_bytes(gathering: Gathering, packet: &[u8], store: &[u8]) -> Result<[u64; 3], Error> {
+    let Gathering { opened, count, lies } = gathering;
+    let [mut slice, mut place, mut length] = [0; 3];
+    // SAFETY: the pointers and the lengths are those of live slices, and the out numbers are live.
+    let word = unsafe {
+        cmv_gather_bytes(
+            opened,
+            count,
+            lies,
+            packet.as_ptr(),
+            packet.len(),
+            store.as_ptr(),
+            store.len(),
+            &mut slice,
+            &mut place,
+            &mut length,
+        )
+    };
+    told(word, [slice, place, length])
+}
+
+// ---- The writer.
+
+/// The number of packets.
+pub fn write(unit: &Unit, payload: &[u8], out: &mut [u8]) -> Result<u64, Error> {
+    let n = Numbers::of(unit);
+    let mut count = 0;
+    // SAFETY: the pointers and the lengths are those of live slices, the out number is live, and what is written shares no byte with
+    // another.
+    let word = unsafe {
+        cmv_write(
+            unit.pid,
+            unit.counter,
+            unit.id,
+            unit.bounded.into(),
+            unit.priority.into(),
+            unit.alignment.into(),
+            unit.copyright.into(),
+            unit.original.into(),
+            n.times,
+            n.pts,
+            n.dts,
+            unit.escr.is_some().into(),
+            n.escr_base,
+            n.escr_extension,
+            unit.es_rate.is_some().into(),
+            unit.es_rate.unwrap_or(0),
+            unit.trick_mode.is_some().into(),
+            unit.trick_mode.unwrap_or(0),
+            unit.copy_info.is_some().into(),
+            unit.copy_info.unwrap_or(0),
+            unit.crc.is_some().into(),
+            unit.crc.unwrap_or(0),
+            payload.as_ptr(),
+            payload.len(),
+            out.as_mut_ptr(),
+            out.len(),
+            &mut count,
+        )
+    };
+    told(word, count)
+}

@@ -1,0 +1,141 @@
+//! The gathering store of one stream.
+
+use crate::error::Error;
+use crate::ffi;
+use crate::machine::Event;
+
+/// The number that says that the bytes lie in the store.
+const STORE: u8 = 255;
+
+/// What is known of the unit that is gathered from a stream's events. Its bytes stand in a store of the caller's.
+///
+/// ```
+/// use clomaverift::{Gathering, Machine};
+///
+/// let mut packet = [0xFF; 188];
+/// packet[..15].copy_from_slice(&[0x47, 0x41, 0, 0x10, 0, 0, 1, 0xE0, 0, 0, 0x80, 0, 0, 7, 8]);
+/// let (mut machine, mut gathering) = (Machine::new(), Gathering::new());
+/// let (mut log, mut store) = ([0; 16], [0; 1_000]);
+/// machine.step(&packet, &mut log)?;
+/// for event in machine.events(&log) {
+///     gathering.gather(&packet, event?, &mut store)?;
+/// }
+///
+/// let bytes = gathering.bytes(&packet, &store)?;
+/// assert_eq!((bytes.len(), &bytes[..2]), (175, &[7, 8][..]));
+/// # Ok::<(), clomaverift::Error>(())
+/// ```
+#[derive(Clone, Copy, Debug, PartialEq, Eq)]
+pub struct Gathering {
+    pub(crate) opened: u8,
+    pub(crate) count: usize,
+    pub(crate) lies: u8,
+}
+
+impl Default for Gathering {
+    fn default() -> Gathering {
+        Gathering::new()
+    }
+}
+
+impl Gathering {
+    /// Before the first event: no unit, no bytes.
+    pub fn new() -> Gathering {
+        Gathering { opened: 0, count: 0, lies: STORE }
+    }
+
+    /// Takes an event of a packet. A begin opens a unit anew with the payload after the header, a continue adds to an open unit, an end
+    /// closes it and keeps its bytes, and a break of the counter empties and closes it.
+    ///
+    /// The order of refusals: [`Error::WrongLength`], [`Error::NoSync`], [`Error::OutOfRange`], [`Error::StoreFull`]. On the last the
+    /// unit is closed and has no bytes; on the others nothing changes.
+    pub fn gather(&mut self, packet: &[u8], event: Event, store: &mut [u8]) -> Result<(), Error> {
+        ffi::gather(self, packet, [event.kind as u8, event.place, event.length], store)
+    }
+
+    /// The bytes so far: a part of the packet of a begin, otherwise of the store. The packet is that of the last event.
+    pub fn bytes<'buf>(&self, packet: &'buf [u8], store: &'buf [u8]) -> Result<&'buf [u8], Error> {
+        let [slice, place, length] = ffi::gather_bytes(*self, packet, store)?;
+        let lent = if slice == 0 { packet } else { store };
+        Ok(&lent[place as usize..][..length as usize])
+    }
+
+    /// Whether a unit is open.
+    pub fn is_open(&self) -> bool {
+        self.opened == 1
+    }
+
+    /// How many bytes it has, or had when it was closed.
+    pub fn count(&self) -> usize {
+        self.count
+    }
+}
+
+#[cfg(test)]
+mod tests {
+    use super::*;
+    use crate::machine::EventKind;
+
+    fn packet() -> [u8; 188] {
+        let mut bytes: [u8; 188] = std::array::from_fn(|at| at as u8);
+        bytes[..13].copy_from_slice(&[0x47, 0x41, 0, 0x10, 0, 0, 1, 0xE0, 0, 0, 0x80, 0, 0]);
+        bytes
+    }
+
+    fn event(kind: EventKind, place: u8, length: u8) -> Event {
+        Event { kind, index: 0, place, length }
+    }
+
+    #[test]
+    fn a_unit_of_two_packets() {
+        let packet = packet();
+        let mut gathering = Gathering::new();
+        let mut store = [0; 400];
+        gathering.gather(&packet, event(EventKind::BeginPacket, 4, 184), &mut store).unwrap();
+        assert_eq!(gathering.bytes(&packet, &store), Ok(&packet[13..]));
+        gathering.gather(&packet, event(EventKind::ContinuePacket, 100, 88), &mut store).unwrap();
+        let whole = [&packet[13..], &packet[100..]].concat();
+        assert_eq!(gathering.bytes(&packet, &store), Ok(&whole[..]));
+        gathering.gather(&packet, event(EventKind::EndPacket, 0, 0), &mut store).unwrap();
+        assert_eq!((gathering.is_open(), gathering.count()), (false, whole.len()));
+        assert_eq!(gathering.bytes(&packet, &store), Ok(&whole[..]));
+        assert_eq!(store[whole.len()..], [0; 400 - 263]);
+    }
+
+    #[test]
+    fn a_full_store_closes_the_unit() {
+        let packet = packet();
+        let mut gathering = Gathering::new();
+        let mut store = [0; 200];
+        gathering.gather(&packet, event(EventKind::BeginPacket, 4, 184), &mut store).unwrap();
+        let before = store;
+        let more = event(EventKind::ContinuePacket, 4, 184);
+        assert_eq!(gathering.gather(&packet, more, &mut store), Err(Error::StoreFull));
+        assert_eq!((gathering.is_open(), gathering.count(), store), (false, 0, before));
+        assert_eq!(gathering.gather(&packet, more, &mut store), Ok(()));
+        assert_eq!(gathering.count(), 0);
+    }
+
+    #[test]
+    fn a_break_empties() {
+        let packet = packet();
+        let mut gathering = Gathering::new();
+        let mut store = [0; 200];
+        gathering.gather(&packet, event(EventKind::BeginPacket, 4, 184), &mut store).unwrap();
+        gathering.gather(&packet, event(EventKind::ContinuityError, 0, 0), &mut store).unwrap();
+        assert_eq!((gathering.is_open(), gathering.bytes(&packet, &store)), (false, Ok(&[][..])));
+    }
+
+    #[test]
+    fn refusals_change_nothing() {
+        let packet = packet();
+        let mut gathering = Gathering::new();
+        let begin = event(EventKind::BeginPacket, 4, 184);
+        assert_eq!(gathering.gather(&packet[1..], begin, &mut [0; 9]), Err(Error::WrongLength));
+        assert_eq!(gathering.gather(&[0; 188], begin, &mut [0; 9]), Err(Error::NoSync));
+        let outside = event(EventKind::ContinuePacket, 5, 184);
+        assert_eq!(gathering.gather(&packet, outside, &mut [0; 9]), Err(Error::OutOfRange));
+        assert_eq!(gathering, Gathering::new());
+        assert_eq!(gathering.bytes(&[0; 188], &[]), Err(Error::NoSync));
+    }
+}

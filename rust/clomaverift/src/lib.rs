@@ -1,0 +1,73 @@
+//! The proved header reader of a transport stream analyser, for Rust.
+//!
+//! Packets, adaptation fields, PES headers and their timestamps are read, the events of a stream are found and units are gathered and
+//! written by the library Clomaverift, in which every function is proved to meet its contract. This crate is a thin layer over its
+//! exported functions: the types have the names that they have in the crate mpeg2ts-reader, which the library is a port of, and all
+//! that is read of bytes is read by the library. Where mpeg2ts-reader panics or answers `None`, a function here gives an [`Error`],
+//! which says why.
+//!
+//! # Which part to take
+//!
+//! - [`Demux`]: a recording of many PIDs in, units with their times and payload, clock references and continuity errors out.
+//! - [`Machine`], [`Events`] and [`Gathering`]: the same for one PID, step by step, with no memory but the caller's.
+//! - [`Packet`], [`PesHeader`], [`Timestamp`] and what they give: single packets and headers.
+//! - [`Unit`] and [`write()`]: a unit with its payload as packets.
+//!
+//! # Beside mpeg2ts-reader
+//!
+//! - `Packet::try_new`, `PesHeader::from_bytes`, `PesParsedContents::from_bytes`, `AdaptationField::new`, `Pid::new` and the other makers
+//!   answer a `Result`; `Packet::new`, which asserts, is left out. [`PesContents::Parsed`] holds a `Result` for an `Option`.
+//! - There is one [`Error`] for `AdaptationFieldError`, `PesError` and `TimestampError`.
+//! - [`PtsDts`] has no cases `None` and `Invalid`, which mpeg2ts-reader never gives.
+//! - [`PesParsedContents`] has more readers: `flags`, `pes_header_data_len`, `pes_scrambling_control`, `raw_trick_mode`.
+//! - `PesPacketFilter` and `ElementaryStreamConsumer` are [`Machine`] and a log of [`Event`]s. Program tables are not read.
+//!
+//! # Linking
+//!
+//! The library is two archives, `libhost.a` and `libhost_streams.a`, for x86-64. The build script takes them from the folder that the
+//! environment variable `CLOMAVERIFT_LIBRARY` names, or else from the repository's `target/staticlib`, where `rt staticlib host` and
+//! `rt staticlib host_streams` write them.
+//!
+//! # Example
+//!
+//! The times of a packet that begins a unit:
+//!
+//! ```
+//! use clomaverift::{Packet, PesContents, PesHeader, PtsDts, Timestamp};
+//!
+//! let mut bytes = [0xFF; Packet::SIZE];
+//! bytes[..18].copy_from_slice(&[0x47, 0x41, 0, 0x10, 0, 0, 1, 0xE0, 0, 0, 0x80, 0x80, 5, 0x21, 0, 5, 0xBF, 0x21]);
+//!
+//! let packet = Packet::try_new(&bytes)?;
+//! assert_eq!(u16::from(packet.pid()), 0x100);
+//! let header = PesHeader::from_bytes(packet.payload().unwrap())?;
+//! let PesContents::Parsed(contents) = header.contents() else { panic!("a bare payload") };
+//! assert_eq!(contents?.pts_dts()?, PtsDts::PtsOnly(Timestamp::from_u64(90_000)));
+//! # Ok::<(), clomaverift::Error>(())
+//! ```
+
+#![deny(unsafe_code)]
+#![warn(missing_docs)]
+
+mod demux;
+mod error;
+mod ffi;
+mod gather;
+mod machine;
+pub mod packet;
+pub mod pes;
+mod writer;
+
+pub use demux::{Demux, Found, FoundUnit};
+pub use error::Error;
+pub use gather::Gathering;
+pub use machine::{Event, EventKind, Events, Machine, Phase};
+pub use packet::{
+    AdaptationControl, AdaptationField, AdaptationFieldExtension, ClockRef, ContinuityCounter, Packet, Pid,
+    SeamlessSplice, TransportScramblingControl,
+};
+pub use pes::{
+    Copyright, CopyrightStatus, DataAlignment, DsmTrickMode, EsRate, FrequencyTruncationCoefficientSelection,
+    OriginalOrCopy, PesContents, PesExtension, PesHeader, PesLength, PesParsedContents, PtsDts, StreamId, Timestamp,
+};
+pub use writer::{write, Times, Unit};

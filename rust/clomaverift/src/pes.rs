@@ -1,0 +1,647 @@
+//! PES headers, what they hold, and timestamps.
+
+use crate::error::{sure, Error};
+use crate::ffi;
+use crate::packet::{part, ClockRef};
+use std::fmt;
+use std::num::NonZeroU16;
+
+/// The number of an answer that cannot be a refusal.
+fn number(answer: Result<[u64; 1], Error>) -> u64 {
+    let [value] = sure(answer);
+    value
+}
+
+/// The length that a PES header gives.
+#[derive(Clone, Copy, Debug, PartialEq, Eq)]
+pub enum PesLength {
+    /// The packet goes on until the next one begins. The standard allows this for video alone.
+    Unbounded,
+    /// The bytes after the length's own.
+    Bounded(NonZeroU16),
+}
+
+/// The stream id of a PES header.
+///
+/// ```
+/// use clomaverift::{PesHeader, StreamId};
+///
+/// let id = PesHeader::from_bytes(&[0, 0, 1, 0xE3, 0, 0])?.stream_id();
+/// assert_eq!((id.number(), id.video(), id.audio()), (0xE3, Some(3), None));
+/// let id = PesHeader::from_bytes(&[0, 0, 1, 0xBD, 0, 0])?.stream_id();
+/// assert_eq!(id, StreamId::PRIVATE_STREAM1);
+/// # Ok::<(), clomaverift::Error>(())
+/// ```
+#[derive(Clone, Copy, PartialEq, Eq, Hash)]
+pub struct StreamId {
+    /// The id; C0 or E0 hex for all audio or video; 0 for an id that has no name.
+    kind: u8,
+    /// What is to be added to the kind.
+    low: u8,
+}
+
+const AUDIO: u8 = 0xC0;
+const VIDEO: u8 = 0xE0;
+const UNKNOWN: u8 = 0;
+
+/// The ids that have a name, as constants and in a table.
+macro_rules! named_ids {
+    ($($name:ident = $kind:literal, $text:literal;)*) => {
+        impl StreamId {
+            $(#[doc = $text] pub const $name: StreamId = StreamId { kind: $kind, low: 0 };)*
+        }
+
+        const NAMES: &[(StreamId, &str)] = &[$((StreamId::$name, stringify!($name))),*];
+    };
+}
+
+named_ids! {
+    PROGRAM_STREAM_MAP = 0xBC, "A program stream map.";
+    PRIVATE_STREAM1 = 0xBD, "Private stream 1.";
+    PADDING_STREAM = 0xBE, "A padding stream.";
+    PRIVATE_STREAM2 = 0xBF, "Private stream 2.";
+    ECM_STREAM = 0xF0, "Entitlement control messages.";
+    EMM_STREAM = 0xF1, "Entitlement management messages.";
+    DSM_CC = 0xF2, "DSM-CC.";
+    ISO_13522_STREAM = 0xF3, "ISO/IEC 13522.";
+    H222_1_TYPE_A = 0xF4, "Rec. ITU-T H.222.1, type A.";
+    H222_1_TYPE_B = 0xF5, "Rec. ITU-T H.222.1, type B.";
+    H222_1_TYPE_C = 0xF6, "Rec. ITU-T H.222.1, type C.";
+    H222_1_TYPE_D = 0xF7, "Rec. ITU-T H.222.1, type D.";
+    H222_1_TYPE_E = 0xF8, "Rec. ITU-T H.222.1, type E.";
+    ANCILLARY_STREAM = 0xF9, "An ancillary stream.";
+    SL_PACKETIZED_STREAM = 0xFA, "An SL-packetized stream of ISO/IEC 14496-1.";
+    FLEX_MUX_STREAM = 0xFB, "A FlexMux stream of ISO/IEC 14496-1.";
+    METADATA_STREAM = 0xFC, "A metadata stream.";
+    EXTENDED_STREAM_ID = 0xFD, "The id stands in the extension.";
+    RESERVED_DATA_STREAM = 0xFE, "A reserved data stream.";
+    PROGRAM_STREAM_DIRECTORY = 0xFF, "A program stream directory.";
+}
+
+impl StreamId {
+    fn of([kind, low]: [u64; 2]) -> StreamId {
+        StreamId { kind: kind as u8, low: low as u8 }
+    }
+
+    /// The id's number.
+    pub fn number(&self) -> u8 {
+        self.kind + self.low
+    }
+
+    /// Of an audio stream, its number: the low five bits of the id.
+    pub fn audio(&self) -> Option<u8> {
+        (self.kind == AUDIO).then_some(self.low)
+    }
+
+    /// Of a video stream, its number: the low five bits of the id.
+    pub fn video(&self) -> Option<u8> {
+        (self.kind == VIDEO).then_some(self.low)
+    }
+}
+
+impl fmt::Debug for StreamId {
+    fn fmt(&self, f: &mut fmt::Formatter<'_>) -> fmt::Result {
+        match self.kind {
+            AUDIO => write!(f, "Audio({})", self.low),
+            VIDEO => write!(f, "Video({})", self.low),
+            UNKNOWN => write!(f, "Unknown({})", self.low),
+            _ => f.write_str(NAMES.iter().find(|(id, _)| id == self).map_or("Unnamed", |(_, name)| name)),
+        }
+    }
+}
+
+/// The header at the start of a PES packet, and the bytes after it.
+///
+/// ```
+/// use clomaverift::{Error, PesContents, PesHeader, PesLength};
+///
+/// let header = PesHeader::from_bytes(&[0, 0, 1, 0xBF, 0, 3, 7, 8, 9])?;
+/// assert_eq!(header.pes_packet_length(), PesLength::Bounded(3.try_into().unwrap()));
+/// assert!(matches!(header.contents(), PesContents::Payload(&[7, 8, 9])));
+///
+/// assert_eq!(PesHeader::from_bytes(&[0, 0, 1, 0xBF, 0]).unwrap_err(), Error::ShortHeader);
+/// assert_eq!(PesHeader::from_bytes(&[0, 0, 2, 0xBF, 0, 3]).unwrap_err(), Error::BadStartCode);
+/// # Ok::<(), Error>(())
+/// ```
+#[derive(Clone, Copy, Debug)]
+pub struct PesHeader<'buf> {
+    buf: &'buf [u8],
+}
+
+impl<'buf> PesHeader<'buf> {
+    /// [`Error::ShortHeader`] for under 6 bytes, [`Error::BadStartCode`] where the first three are not 00 00 01.
+    pub fn from_bytes(buf: &'buf [u8]) -> Result<PesHeader<'buf>, Error> {
+        ffi::pes_header_from_bytes(buf)?;
+        Ok(PesHeader { buf })
+    }
+
+    /// What stream the packet is of.
+    pub fn stream_id(&self) -> StreamId {
+        StreamId::of(sure(ffi::pes_header_stream_id(self.buf)))
+    }
+
+    /// The length that the header gives.
+    pub fn pes_packet_length(&self) -> PesLength {
+        let [_, length] = sure(ffi::pes_header_pes_packet_length(self.buf));
+        NonZeroU16::new(length as u16).map_or(PesLength::Unbounded, PesLength::Bounded)
+    }
+
+    /// What follows the six bytes of the header, by the stream id: parsed contents, or a payload alone.
+    pub fn contents(&self) -> PesContents<'buf> {
+        let [kind, place, length] = sure(ffi::pes_header_contents(self.buf));
+        let rest = &self.buf[place as usize..][..length as usize];
+        match kind {
+            0 => PesContents::Payload(rest),
+            _ => PesContents::Parsed(PesParsedContents::from_bytes(rest)),
+        }
+    }
+
+    /// The payload in these bytes, of either kind of contents.
+    pub fn payload(&self) -> Result<&'buf [u8], Error> {
+        match self.contents() {
+            PesContents::Payload(payload) => Ok(payload),
+            PesContents::Parsed(parsed) => Ok(parsed?.payload()),
+        }
+    }
+}
+
+/// What follows the six bytes of a PES header.
+#[derive(Clone, Copy, Debug)]
+pub enum PesContents<'buf> {
+    /// More header fields and a payload, or why they are refused.
+    Parsed(Result<PesParsedContents<'buf>, Error>),
+    /// A payload alone.
+    Payload(&'buf [u8]),
+}
+
+/// A mode in which a medium plays other than forward at its own speed.
+#[derive(Clone, Copy, Debug, PartialEq, Eq)]
+#[allow(missing_docs)]
+pub enum DsmTrickMode {
+    FastForward {
+        field_id: u8,
+        intra_slice_refresh: bool,
+        frequency_truncation: FrequencyTruncationCoefficientSelection,
+    },
+    /// `rep_cntrl` is the number of the mode, as mpeg2ts-reader reports it. [`PesParsedContents::raw_trick_mode`] has all bits.
+    SlowMotion {
+        rep_cntrl: u8,
+    },
+    FreezeFrame {
+        field_id: u8,
+        reserved: u8,
+    },
+    FastReverse {
+        field_id: u8,
+        intra_slice_refresh: bool,
+        frequency_truncation: FrequencyTruncationCoefficientSelection,
+    },
+    /// `rep_cntrl` is the number of the mode, as mpeg2ts-reader reports it.
+    SlowReverse {
+        rep_cntrl: u8,
+    },
+    /// `reserved` is the number of the mode, as mpeg2ts-reader reports it.
+    Reserved {
+        reserved: u8,
+    },
+}
+
+impl DsmTrickMode {
+    fn of([kind, first, second, third]: [u64; 4]) -> DsmTrickMode {
+        let first = first as u8;
+        let intra_slice_refresh = second != 0;
+        let frequency_truncation = FrequencyTruncationCoefficientSelection::of(third);
+        match kind {
+            0 => DsmTrickMode::FastForward { field_id: first, intra_slice_refresh, frequency_truncation },
+            1 => DsmTrickMode::SlowMotion { rep_cntrl: first },
+            2 => DsmTrickMode::FreezeFrame { field_id: first, reserved: second as u8 },
+            3 => DsmTrickMode::FastReverse { field_id: first, intra_slice_refresh, frequency_truncation },
+            4 => DsmTrickMode::SlowReverse { rep_cntrl: first },
+            _ => DsmTrickMode::Reserved { reserved: first },
+        }
+    }
+}
+
+/// Which coefficients a picture of a trick mode has.
+#[derive(Clone, Copy, Debug, PartialEq, Eq)]
+pub enum FrequencyTruncationCoefficientSelection {
+    /// The DC coefficient alone is other than zero.
+    DCNonZero,
+    /// The first three coefficients alone.
+    FirstThreeNonZero,
+    /// The first six coefficients alone.
+    FirstSixNonZero,
+    /// All coefficients may be.
+    AllMaybeNonZero,
+}
+
+impl FrequencyTruncationCoefficientSelection {
+    fn of(number: u64) -> FrequencyTruncationCoefficientSelection {
+        match number {
+            0 => FrequencyTruncationCoefficientSelection::DCNonZero,
+            1 => FrequencyTruncationCoefficientSelection::FirstThreeNonZero,
+            2 => FrequencyTruncationCoefficientSelection::FirstSixNonZero,
+            _ => FrequencyTruncationCoefficientSelection::AllMaybeNonZero,
+        }
+    }
+}
+
+/// The rate of an elementary stream, in units of 50 bytes a second.
+///
+/// ```
+/// use clomaverift::{Error, EsRate};
+///
+/// assert_eq!(EsRate::new(75)?.bytes_per_second(), 3_750);
+/// assert_eq!(EsRate::new(1 << 22), Err(Error::OutOfRange));
+/// # Ok::<(), Error>(())
+/// ```
+#[derive(Clone, Copy, Debug, PartialEq, Eq, Hash)]
+pub struct EsRate(u32);
+
+impl EsRate {
+    /// [`Error::OutOfRange`] from 2^22 on.
+    pub fn new(es_rate: u32) -> Result<EsRate, Error> {
+        ffi::es_rate_new(es_rate).map(EsRate::of)
+    }
+
+    fn of([value]: [u64; 1]) -> EsRate {
+        EsRate(value as u32)
+    }
+
+    /// The rate in bytes a second.
+    pub fn bytes_per_second(&self) -> u32 {
+        number(ffi::es_rate_bytes_per_second(self.0)) as u32
+    }
+}
+
+impl From<EsRate> for u32 {
+    fn from(rate: EsRate) -> u32 {
+        rate.0
+    }
+}
+
+/// The extension of a PES header. What it holds is not read.
+#[derive(Clone, Copy, Debug, PartialEq, Eq)]
+pub struct PesExtension<'buf> {
+    buf: &'buf [u8],
+}
+
+impl<'buf> PesExtension<'buf> {
+    /// The extension's bytes, with the stuffing after it.
+    pub fn buffer(&self) -> &'buf [u8] {
+        self.buf
+    }
+}
+
+/// The fields after the six bytes of a PES header, and the payload after them.
+///
+/// A field that is not flagged is [`Error::FieldNotPresent`].
+///
+/// ```
+/// use clomaverift::{Error, PesParsedContents, PtsDts, Timestamp};
+///
+/// let contents = PesParsedContents::from_bytes(&[0x80, 0x80, 5, 0x21, 0, 5, 0xBF, 0x21, 1, 2])?;
+/// assert_eq!(contents.pts_dts()?.pts(), Some(Timestamp::from_u64(90_000)?));
+/// assert_eq!(contents.escr(), Err(Error::FieldNotPresent));
+/// assert_eq!(contents.payload(), [1, 2]);
+///
+/// assert_eq!(PesParsedContents::from_bytes(&[0xC0, 0, 0]).unwrap_err(), Error::BadCheckBits);
+/// # Ok::<(), Error>(())
+/// ```
+#[derive(Clone, Copy, Debug)]
+pub struct PesParsedContents<'buf> {
+    buf: &'buf [u8],
+}
+
+impl<'buf> PesParsedContents<'buf> {
+    /// [`Error::ShortContents`], [`Error::BadCheckBits`], [`Error::HeaderPastBuffer`] or [`Error::FieldsPastHeader`] where the bytes
+    /// are no contents, in this order.
+    pub fn from_bytes(buf: &'buf [u8]) -> Result<PesParsedContents<'buf>, Error> {
+        ffi::pes_contents_from_bytes(buf)?;
+        Ok(PesParsedContents { buf })
+    }
+
+    /// 1 where the packet goes before others, else 0.
+    pub fn pes_priority(&self) -> u8 {
+        number(ffi::pes_contents_pes_priority(self.buf)) as u8
+    }
+
+    /// The scrambling bits of the payload.
+    pub fn pes_scrambling_control(&self) -> u8 {
+        number(ffi::pes_contents_pes_scrambling_control(self.buf)) as u8
+    }
+
+    /// The flag byte.
+    pub fn flags(&self) -> u8 {
+        number(ffi::pes_contents_flags(self.buf)) as u8
+    }
+
+    /// The bytes of the fields and of the stuffing after them.
+    pub fn pes_header_data_len(&self) -> u8 {
+        number(ffi::pes_contents_pes_header_data_len(self.buf)) as u8
+    }
+
+    /// Whether an access unit begins with the payload.
+    pub fn data_alignment_indicator(&self) -> DataAlignment {
+        match number(ffi::pes_contents_data_alignment_indicator(self.buf)) {
+            0 => DataAlignment::NotAligned,
+            _ => DataAlignment::Aligned,
+        }
+    }
+
+    /// The copyright bit, as mpeg2ts-reader reads it: 1 is undefined.
+    pub fn copyright(&self) -> Copyright {
+        match number(ffi::pes_contents_copyright(self.buf)) {
+            0 => Copyright::Protected,
+            _ => Copyright::Undefined,
+        }
+    }
+
+    /// Whether the payload is an original or a copy.
+    pub fn original_or_copy(&self) -> OriginalOrCopy {
+        match number(ffi::pes_contents_original_or_copy(self.buf)) {
+            0 => OriginalOrCopy::Copy,
+            _ => OriginalOrCopy::Original,
+        }
+    }
+
+    /// The timestamps. [`Error::PtsDtsFlagsInvalid`] where the flags announce a DTS alone.
+    pub fn pts_dts(&self) -> Result<PtsDts, Error> {
+        let [kind, pts_number, pts, dts_number, dts] = ffi::pes_contents_pts_dts(self.buf)?;
+        let pts = PtsDts::inner(pts_number, pts);
+        Ok(match kind {
+            1 => PtsDts::PtsOnly(pts),
+            _ => PtsDts::Both { pts, dts: PtsDts::inner(dts_number, dts) },
+        })
+    }
+
+    /// The elementary stream clock reference.
+    pub fn escr(&self) -> Result<ClockRef, Error> {
+        ffi::pes_contents_escr(self.buf).map(ClockRef::of)
+    }
+
+    /// The elementary stream rate.
+    pub fn es_rate(&self) -> Result<EsRate, Error> {
+        ffi::pes_contents_es_rate(self.buf).map(EsRate::of)
+    }
+
+    /// The trick mode.
+    pub fn dsm_trick_mode(&self) -> Result<DsmTrickMode, Error> {
+        ffi::pes_contents_dsm_trick_mode(self.buf).map(DsmTrickMode::of)
+    }
+
+    /// The trick mode's byte.
+    pub fn raw_trick_mode(&self) -> Result<u8, Error> {
+        ffi::pes_contents_raw_trick_mode(self.buf).map(|[value]| value as u8)
+    }
+
+    /// The additional copy info, of 7 bits. [`Error::MarkerBitNotSet`] with bit 0 where its first bit is 0.
+    pub fn additional_copy_info(&self) -> Result<u8, Error> {
+        ffi::pes_contents_additional_copy_info(self.buf).map(|[value]| value as u8)
+    }
+
+    /// The check sum of the PES packet before. It is not checked.
+    pub fn previous_pes_packet_crc(&self) -> Result<u16, Error> {
+        ffi::pes_contents_previous_pes_packet_crc(self.buf).map(|[value]| value as u16)
+    }
+
+    /// The extension.
+    pub fn pes_extension(&self) -> Result<PesExtension<'buf>, Error> {
+        let buf = part(self.buf, ffi::pes_contents_pes_extension(self.buf))?;
+        Ok(PesExtension { buf })
+    }
+
+    /// The part of the payload that is in these bytes. It may be empty.
+    pub fn payload(&self) -> &'buf [u8] {
+        sure(part(self.buf, ffi::pes_contents_payload(self.buf)))
+    }
+}
+
+/// A timestamp of 33 bits, at 90 kHz.
+///
+/// ```
+/// use clomaverift::{Error, Timestamp};
+///
+/// assert_eq!(Timestamp::from_pts_bytes(&[0x21, 0, 5, 0xBF, 0x21])?.value(), 90_000);
+/// assert_eq!(Timestamp::from_pts_bytes(&[0x21, 0, 5]), Err(Error::WrongLength));
+/// # Ok::<(), Error>(())
+/// ```
+#[derive(Clone, Copy, Debug, PartialEq, Eq, Hash, PartialOrd, Ord)]
+pub struct Timestamp {
+    val: u64,
+}
+
+impl Timestamp {
+    /// The largest timestamp that can be read.
+    pub const MAX: Timestamp = Timestamp { val: (1 << 33) - 1 };
+
+    /// How many timestamps a second has.
+    pub const TIMEBASE: u64 = 90_000;
+
+    /// A PTS that stands alone: the bits before it are 0010. The first 5 bytes count.
+    pub fn from_pts_bytes(buf: &[u8]) -> Result<Timestamp, Error> {
+        ffi::timestamp_from_pts_bytes(buf).map(Timestamp::of)
+    }
+
+    /// A DTS: the bits before it are 0001. The first 5 bytes count.
+    pub fn from_dts_bytes(buf: &[u8]) -> Result<Timestamp, Error> {
+        ffi::timestamp_from_dts_bytes(buf).map(Timestamp::of)
+    }
+
+    /// A timestamp, whatever the bits before it are. The first 5 bytes count.
+    pub fn from_bytes(buf: &[u8]) -> Result<Timestamp, Error> {
+        ffi::timestamp_from_bytes(buf).map(Timestamp::of)
+    }
+
+    /// [`Error::OutOfRange`] from 2^34 on.
+    pub fn from_u64(val: u64) -> Result<Timestamp, Error> {
+        ffi::timestamp_from_u64(val).map(Timestamp::of)
+    }
+
+    pub(crate) fn of([value]: [u64; 1]) -> Timestamp {
+        Timestamp { val: value }
+    }
+
+    /// Its number.
+    pub fn value(self) -> u64 {
+        self.val
+    }
+
+    /// Whether the time has probably begun anew at 0 since the other: it is not later, by 2^32 or more.
+    ///
+    /// ```
+    /// use clomaverift::Timestamp;
+    ///
+    /// let now = Timestamp::from_u64(0)?;
+    /// assert!(now.likely_wrapped_since(Timestamp::from_u64(4_294_967_296)?));
+    /// assert!(!now.likely_wrapped_since(Timestamp::from_u64(4_294_967_295)?));
+    /// # Ok::<(), clomaverift::Error>(())
+    /// ```
+    pub fn likely_wrapped_since(self, since: Timestamp) -> bool {
+        number(ffi::timestamp_likely_wrapped_since(self.val, since.val)) != 0
+    }
+}
+
+/// The timestamps of a PES header, each with a refusal of its own.
+#[derive(Clone, Copy, Debug, PartialEq, Eq)]
+pub enum PtsDts {
+    /// A PTS alone.
+    PtsOnly(Result<Timestamp, Error>),
+    /// A PTS and a DTS.
+    Both {
+        /// The presentation timestamp.
+        pts: Result<Timestamp, Error>,
+        /// The decoding timestamp.
+        dts: Result<Timestamp, Error>,
+    },
+}
+
+impl PtsDts {
+    /// A timestamp within an answer: its number, and its value or bit.
+    fn inner(number: u64, value: u64) -> Result<Timestamp, Error> {
+        match number {
+            0 => Ok(Timestamp::of([value])),
+            _ => Err(Error::MarkerBitNotSet { bit_number: value as u8 }),
+        }
+    }
+
+    /// The PTS, if it is not refused.
+    pub fn pts(&self) -> Option<Timestamp> {
+        match self {
+            PtsDts::PtsOnly(pts) | PtsDts::Both { pts, .. } => pts.ok(),
+        }
+    }
+
+    /// The DTS, if there is one and it is not refused.
+    pub fn dts(&self) -> Option<Timestamp> {
+        match self {
+            PtsDts::PtsOnly(_) => None,
+            PtsDts::Both { dts, .. } => dts.ok(),
+        }
+    }
+}
+
+/// Whether an access unit begins with the payload of a PES packet.
+#[derive(Clone, Copy, Debug, PartialEq, Eq)]
+pub enum DataAlignment {
+    /// One does.
+    Aligned,
+    /// That is not said.
+    NotAligned,
+}
+
+/// The copyright status of a PES packet.
+#[derive(Clone, Copy, Debug, PartialEq, Eq)]
+pub enum Copyright {
+    /// The bit is 0.
+    Protected,
+    /// The bit is 1. The standard gives the two bits the other meanings; this is what mpeg2ts-reader gives.
+    Undefined,
+}
+
+/// The name that [`Copyright`] has in the proved library.
+pub type CopyrightStatus = Copyright;
+
+/// Whether the payload of a PES packet is an original.
+#[derive(Clone, Copy, Debug, PartialEq, Eq)]
+pub enum OriginalOrCopy {
+    /// It is an original.
+    Original,
+    /// It is a copy.
+    Copy,
+}
+
+#[cfg(test)]
+mod tests {
+    use super::*;
+
+    #[test]
+    fn constants_are_the_librarys() {
+        assert_eq!(ffi::constants::timestamp(), Ok([Timestamp::MAX.value(), Timestamp::TIMEBASE]));
+    }
+
+    #[test]
+    fn every_stream_id_has_its_number_and_text() {
+        for id in 0..=255 {
+            let bytes = [0, 0, 1, id, 0, 0];
+            let stream = PesHeader::from_bytes(&bytes).unwrap().stream_id();
+            assert_eq!(stream.number(), id);
+            let text = format!("{stream:?}");
+            match id {
+                0..=0xBB => assert_eq!(text, format!("Unknown({id})")),
+                0xC0..=0xDF => assert_eq!(text, format!("Audio({})", id - 0xC0)),
+                0xE0..=0xEF => assert_eq!(text, format!("Video({})", id - 0xE0)),
+                _ => assert!(NAMES.iter().any(|(named, name)| named.number() == id && *name == text)),
+            }
+        }
+    }
+
+    #[test]
+    fn bare_ids_have_a_payload_alone() {
+        let bare = |id| {
+            let bytes = [0, 0, 1, id, 0, 0];
+            matches!(PesHeader::from_bytes(&bytes).unwrap().contents(), PesContents::Payload(_))
+        };
+        let found: Vec<u8> = (0..=255).filter(|id| bare(*id)).collect();
+        assert_eq!(found, [0xBC, 0xBE, 0xBF, 0xF0, 0xF1, 0xF2, 0xF8, 0xFF]);
+    }
+
+    #[test]
+    fn contents_with_every_field() {
+        let mut bytes = vec![0x8F, 0xFF, 25];
+        bytes.extend([0x31, 0, 5, 0xBF, 0x21, 0x11, 0, 5, 0xBF, 0x20]); // PTS 90,000; a DTS without its last marker
+        bytes.extend([0xC4, 0, 4, 0, 0x0C, 5]); // ESCR: base 1, extension 2
+        bytes.extend([0x80, 0, 0x97]); // ES rate 75
+        bytes.push(0x2A); // slow motion
+        bytes.push(0x85); // copy info 5
+        bytes.extend([0x12, 0x34]); // CRC
+        bytes.extend([0xAA, 0xBB]); // extension
+        bytes.extend([1, 2, 3]);
+        let contents = PesParsedContents::from_bytes(&bytes).unwrap();
+        assert_eq!((contents.pes_priority(), contents.pes_scrambling_control()), (1, 0));
+        assert_eq!(contents.data_alignment_indicator(), DataAlignment::Aligned);
+        assert_eq!(contents.copyright(), Copyright::Undefined);
+        assert_eq!(contents.original_or_copy(), OriginalOrCopy::Original);
+        assert_eq!((contents.flags(), contents.pes_header_data_len()), (0xFF, 25));
+        let times = contents.pts_dts().unwrap();
+        assert_eq!(times.pts(), Timestamp::from_u64(90_000).ok());
+        assert!(matches!(times, PtsDts::Both { dts: Err(Error::MarkerBitNotSet { bit_number: 39 }), .. }));
+        assert_eq!(contents.escr(), ClockRef::from_parts(1, 2));
+        assert_eq!(contents.es_rate().map(u32::from), Ok(75));
+        assert_eq!(contents.dsm_trick_mode(), Ok(DsmTrickMode::SlowMotion { rep_cntrl: 1 }));
+        assert_eq!(contents.raw_trick_mode(), Ok(0x2A));
+        assert_eq!(contents.additional_copy_info(), Ok(5));
+        assert_eq!(contents.previous_pes_packet_crc(), Ok(0x1234));
+        assert_eq!(contents.pes_extension().unwrap().buffer(), [0xAA, 0xBB]);
+        assert_eq!(contents.payload(), [1, 2, 3]);
+    }
+
+    #[test]
+    fn trick_modes() {
+        let mode = |byte| PesParsedContents::from_bytes(&[0x80, 8, 1, byte]).unwrap().dsm_trick_mode().unwrap();
+        let frequency_truncation = FrequencyTruncationCoefficientSelection::FirstSixNonZero;
+        let fast = DsmTrickMode::FastForward { field_id: 1, intra_slice_refresh: true, frequency_truncation };
+        assert_eq!(mode(0b0000_1110), fast);
+        let back = DsmTrickMode::FastReverse { field_id: 2, intra_slice_refresh: false, frequency_truncation };
+        assert_eq!(mode(0b0111_0010), back);
+        assert_eq!(mode(0b0101_1101), DsmTrickMode::FreezeFrame { field_id: 3, reserved: 5 });
+        assert_eq!(mode(0b1001_1111), DsmTrickMode::SlowReverse { rep_cntrl: 4 });
+        assert_eq!(mode(0b1110_0000), DsmTrickMode::Reserved { reserved: 7 });
+    }
+
+    #[test]
+    fn worked_examples() {
+        let refused = |bytes: &[u8]| PesParsedContents::from_bytes(bytes).unwrap_err().number();
+        assert_eq!(refused(&[0x80, 0xC0, 9, 0, 0, 0, 0, 0, 0, 0, 0, 0]), 8);
+        assert_eq!(refused(&[0x80, 0x80, 5, 0, 0, 0, 0]), 7);
+        assert_eq!(refused(&[0x80, 0]), 5);
+        let flags = PesParsedContents::from_bytes(&[0x80, 0x40, 0]).unwrap();
+        assert_eq!(flags.pts_dts(), Err(Error::PtsDtsFlagsInvalid));
+        assert_eq!(Timestamp::from_pts_bytes(&[0x2F, 0xFF, 0xFF, 0xFF, 0xFF]), Ok(Timestamp::MAX));
+        let prefix = Error::IncorrectPrefixBits { expected: 2, actual: 0 };
+        assert_eq!(Timestamp::from_pts_bytes(&[0; 5]), Err(prefix));
+        assert_eq!(Timestamp::from_u64(1 << 34), Err(Error::OutOfRange));
+        let bare = PesHeader::from_bytes(&[0, 0, 1, 0xBC, 0, 0]).unwrap();
+        assert_eq!(bare.payload(), Ok(&[][..]));
+    }
+}

@@ -1,0 +1,277 @@
+//! The writer: a unit with its payload as packets.
+
+use crate::error::Error;
+use crate::ffi;
+use crate::packet::{ClockRef, Packet};
+
+/// The bytes of a PES header with every field that can be written.
+const LONGEST_HEADER: usize = 9 + 23;
+
+/// The payload bytes of a packet.
+const CARRIED: usize = 184;
+
+/// The timestamps of a unit that is to be written.
+#[derive(Clone, Copy, Debug, Default, PartialEq, Eq)]
+pub enum Times {
+    /// None.
+    #[default]
+    Untimed,
+    /// A PTS alone.
+    Pts(u64),
+    /// A PTS and a DTS.
+    Both {
+        /// The presentation timestamp.
+        pts: u64,
+        /// The decoding timestamp.
+        dts: u64,
+    },
+}
+
+/// The fields of a unit that is to be written. The library judges them as they are: [`Error::BadField`] exactly for a PID outside 16 to
+/// 8190, a counter above 15, a stream id below BC hex or of those that carry a bare payload, an unbounded length with an id outside E0
+/// to EF hex, a time or an ESCR base of 2^33 or more, an ESCR extension above 299, an ES rate of 0 or of 2^22 or more, and a copy info
+/// above 127.
+///
+/// ```
+/// use clomaverift::{Times, Unit};
+///
+/// let unit = Unit::new(0x100, 0xE0).counter(3).pts_dts(97_200, 90_000).unbounded();
+/// assert_eq!(unit.times, Times::Both { pts: 97_200, dts: 90_000 });
+/// let packets = unit.packets(&[7; 1_000])?;
+/// assert_eq!(packets.len(), 6 * 188);
+/// # Ok::<(), clomaverift::Error>(())
+/// ```
+#[derive(Clone, Copy, Debug, PartialEq, Eq)]
+pub struct Unit {
+    /// The PID of the packets.
+    pub pid: u16,
+    /// The continuity counter of the first packet.
+    pub counter: u8,
+    /// The stream id.
+    pub id: u8,
+    /// Whether the header gives the length.
+    pub bounded: bool,
+    /// The priority bit.
+    pub priority: bool,
+    /// The alignment bit.
+    pub alignment: bool,
+    /// The copyright bit.
+    pub copyright: bool,
+    /// The original bit.
+    pub original: bool,
+    /// The timestamps.
+    pub times: Times,
+    /// The elementary stream clock reference: base and extension.
+    pub escr: Option<(u64, u16)>,
+    /// The elementary stream rate.
+    pub es_rate: Option<u32>,
+    /// The trick mode byte.
+    pub trick_mode: Option<u8>,
+    /// The additional copy info.
+    pub copy_info: Option<u8>,
+    /// The check sum of the PES packet before.
+    pub crc: Option<u16>,
+}
+
+impl Unit {
+    /// A unit of bounded length with no optional field, all bits 0, and a first counter of 0.
+    pub fn new(pid: u16, id: u8) -> Unit {
+        Unit {
+            pid,
+            counter: 0,
+            id,
+            bounded: true,
+            priority: false,
+            alignment: false,
+            copyright: false,
+            original: false,
+            times: Times::Untimed,
+            escr: None,
+            es_rate: None,
+            trick_mode: None,
+            copy_info: None,
+            crc: None,
+        }
+    }
+
+    /// With this counter on the first packet.
+    pub fn counter(self, counter: u8) -> Unit {
+        Unit { counter, ..self }
+    }
+
+    /// With no length in the header.
+    pub fn unbounded(self) -> Unit {
+        Unit { bounded: false, ..self }
+    }
+
+    /// With the alignment bit.
+    pub fn aligned(self) -> Unit {
+        Unit { alignment: true, ..self }
+    }
+
+    /// With a PTS alone.
+    pub fn pts(self, pts: u64) -> Unit {
+        Unit { times: Times::Pts(pts), ..self }
+    }
+
+    /// With a PTS and a DTS.
+    pub fn pts_dts(self, pts: u64, dts: u64) -> Unit {
+        Unit { times: Times::Both { pts, dts }, ..self }
+    }
+
+    /// With an elementary stream clock reference.
+    pub fn escr(self, clock: ClockRef) -> Unit {
+        Unit { escr: Some((clock.base(), clock.extension())), ..self }
+    }
+
+    /// With an elementary stream rate.
+    pub fn es_rate(self, rate: u32) -> Unit {
+        Unit { es_rate: Some(rate), ..self }
+    }
+
+    /// With a trick mode byte.
+    pub fn trick_mode(self, byte: u8) -> Unit {
+        Unit { trick_mode: Some(byte), ..self }
+    }
+
+    /// With additional copy info.
+    pub fn copy_info(self, info: u8) -> Unit {
+        Unit { copy_info: Some(info), ..self }
+    }
+
+    /// With the check sum of the PES packet before.
+    pub fn crc(self, crc: u16) -> Unit {
+        Unit { crc: Some(crc), ..self }
+    }
+
+    /// The unit's packets, in memory of their own.
+    pub fn packets(&self, payload: &[u8]) -> Result<Vec<u8>, Error> {
+        let most = (LONGEST_HEADER + payload.len()).div_ceil(CARRIED);
+        let mut out = vec![0; most * Packet::SIZE];
+        let count = write(self, payload, &mut out)?;
+        out.truncate(count * Packet::SIZE);
+        Ok(out)
+    }
+}
+
+/// The numbers of a unit's timestamps and clock, as the library takes them.
+pub(crate) struct Numbers {
+    pub times: u8,
+    pub pts: u64,
+    pub dts: u64,
+    pub escr_base: u64,
+    pub escr_extension: u16,
+}
+
+impl Numbers {
+    pub fn of(unit: &Unit) -> Numbers {
+        let (times, pts, dts) = match unit.times {
+            Times::Untimed => (0, 0, 0),
+            Times::Pts(pts) => (1, pts, 0),
+            Times::Both { pts, dts } => (2, pts, dts),
+        };
+        let (escr_base, escr_extension) = unit.escr.unwrap_or_default();
+        Numbers { times, pts, dts, escr_base, escr_extension }
+    }
+}
+
+/// Writes a unit with its payload as packets to the start of `out`, and gives their number, the least that the unit can have. What is
+/// after them stays as it was.
+///
+/// The order of refusals, none of which writes anything: [`Error::BadField`], [`Error::TooLong`] for more than 65,536 bytes of payload
+/// or for a bounded length that does not fit its 16 bits, [`Error::NoRoom`].
+///
+/// ```
+/// use clomaverift::{write, Error, Packet, Unit};
+///
+/// let unit = Unit::new(0x100, 0xC0).pts(90_000);
+/// let mut out = [0; 2 * Packet::SIZE];
+/// assert_eq!(write(&unit, &[1; 170], &mut out)?, 1);
+/// assert_eq!(write(&unit, &[1; 171], &mut out)?, 2);
+/// assert_eq!(write(&unit, &[1; 500], &mut out), Err(Error::NoRoom));
+/// assert_eq!(write(&unit.counter(16), &[], &mut out), Err(Error::BadField));
+/// # Ok::<(), Error>(())
+/// ```
+pub fn write(unit: &Unit, payload: &[u8], out: &mut [u8]) -> Result<usize, Error> {
+    ffi::write(unit, payload, out).map(|count| count as usize)
+}
+
+#[cfg(test)]
+mod tests {
+    use super::*;
+    use crate::pes::{Copyright, DataAlignment, OriginalOrCopy, PesContents, PesHeader, PesLength};
+
+    fn full() -> Unit {
+        let unit = Unit::new(0x1234, 0xE5).counter(15).aligned().pts_dts(8_589_934_591, 1).es_rate(4_194_303);
+        let unit =
+            unit.escr(ClockRef::from_parts(8_589_934_591, 299).unwrap()).trick_mode(0x2A).copy_info(127).crc(0xBEEF);
+        Unit { priority: true, copyright: true, original: true, ..unit }
+    }
+
+    #[test]
+    fn a_unit_with_every_field_is_read_back() {
+        let payload: Vec<u8> = (0..=255).collect();
+        let packets = full().packets(&payload).unwrap();
+        assert_eq!(packets.len(), 2 * 188);
+        let first = Packet::try_new(&packets[..188]).unwrap();
+        assert_eq!((u16::from(first.pid()), first.continuity_counter().count()), (0x1234, 15));
+        let header = PesHeader::from_bytes(first.payload().unwrap()).unwrap();
+        assert_eq!(header.stream_id().number(), 0xE5);
+        assert_eq!(header.pes_packet_length(), PesLength::Bounded((3 + 23 + 256).try_into().unwrap()));
+        let PesContents::Parsed(Ok(contents)) = header.contents() else { panic!("no contents") };
+        assert_eq!(contents.pes_priority(), 1);
+        assert_eq!(contents.data_alignment_indicator(), DataAlignment::Aligned);
+        assert_eq!(contents.copyright(), Copyright::Undefined);
+        assert_eq!(contents.original_or_copy(), OriginalOrCopy::Original);
+        let times = contents.pts_dts().unwrap();
+        assert_eq!(times.pts().map(|t| t.value()), Some(8_589_934_591));
+        assert_eq!(times.dts().map(|t| t.value()), Some(1));
+        assert_eq!(contents.escr(), ClockRef::from_parts(8_589_934_591, 299));
+        assert_eq!(contents.es_rate().map(u32::from), Ok(4_194_303));
+        assert_eq!((contents.raw_trick_mode(), contents.additional_copy_info()), (Ok(0x2A), Ok(127)));
+        assert_eq!(contents.previous_pes_packet_crc(), Ok(0xBEEF));
+        let second = Packet::try_new(&packets[188..]).unwrap();
+        assert_eq!(second.continuity_counter().count(), 0);
+        assert_eq!([contents.payload(), second.payload().unwrap()].concat(), payload);
+    }
+
+    #[test]
+    fn every_bad_field_is_refused() {
+        let good = full();
+        let bad = [
+            Unit { pid: 15, ..good },
+            Unit { pid: 8191, ..good },
+            Unit { counter: 16, ..good },
+            Unit { id: 0xBB, ..good },
+            Unit { id: 0xBC, ..good },
+            Unit { id: 0xC0, bounded: false, ..good },
+            good.pts(1 << 33),
+            good.pts_dts(0, 1 << 33),
+            Unit { escr: Some((1 << 33, 0)), ..good },
+            Unit { escr: Some((0, 300)), ..good },
+            good.es_rate(0),
+            good.es_rate(1 << 22),
+            good.copy_info(128),
+        ];
+        let mut out = [7; 400];
+        for unit in bad {
+            assert_eq!(write(&unit, &[], &mut out), Err(Error::BadField), "{unit:?}");
+        }
+        assert_eq!(out, [7; 400]);
+    }
+
+    #[test]
+    fn sizes() {
+        let unit = Unit::new(0x100, 0xE0);
+        let count = |unit: &Unit, n: usize| unit.packets(&vec![0; n]).map(|packets| packets.len() / 188);
+        assert_eq!((count(&unit, 175), count(&unit, 176)), (Ok(1), Ok(2)));
+        let timed = unit.pts(0);
+        assert_eq!((count(&timed, 65_527).is_ok(), count(&timed, 65_528)), (true, Err(Error::TooLong)));
+        let full = full().unbounded();
+        assert_eq!((count(&full, 65_536), count(&full, 65_537)), (Ok(357), Err(Error::TooLong)));
+        let mut out = [7; 188 + 100];
+        assert_eq!(write(&unit, &[0; 176], &mut out), Err(Error::NoRoom));
+        assert_eq!(write(&unit, &[0; 175], &mut out), Ok(1));
+        assert_eq!(out[188..], [7; 100]);
+    }
+}

@@ -1,0 +1,62 @@
+#!/usr/bin/env bash
+# rust/clomaverift/test.sh : builds the crate over the two archives of target/staticlib, by rustc alone, and runs its tests: those of its
+# modules, of tests/, of its documentation, and the examples on the sample stream. An archive that is not there is built first.
+set -euo pipefail
+# shellcheck source-path=SCRIPTDIR source=../../tools/common.sh
+. "$(dirname "$0")/../../tools/common.sh"
+
+here=$top/rust/clomaverift
+out=$target/clomaverift
+rustc=$(find_rustc)
+libraries=(-L "native=$target/staticlib" -l static=host_streams -l static=host)
+crate=(--extern "clomaverift=$out/libclomaverift.rlib")
+flags=(--target "$triple" --edition 2021 -D warnings)
+mapfile -t tests < <(basename -s .rs "$here"/tests/*.rs)
+on_x86 || flags+=(-C linker=x86_64-linux-gnu-gcc)
+
+build() { # FILE PROGRAM RUSTC-WORDS..
+    CARGO_MANIFEST_DIR=$here "$rustc" "${flags[@]}" -o "$out/$2" "${@:3}" "$here/$1" || fail "$1 cannot be built"
+}
+
+build_all() {
+    local name
+    build src/lib.rs libclomaverift.rlib --crate-name clomaverift --crate-type rlib "${libraries[@]}"
+    build src/lib.rs modules --crate-name clomaverift --test "${libraries[@]}"
+    for name in "${tests[@]}"; do
+        build "tests/$name.rs" "$name" --test "${crate[@]}"
+    done
+    for name in times payload; do
+        build "examples/$name.rs" "$name" "${crate[@]}"
+    done
+}
+
+# Runs the tests of a program; what it says is shown where one fails.
+run_tests() { # PROGRAM
+    "$out/$1" --quiet >"$out/said" 2>&1 || { cat "$out/said" && fail "a test of $1 failed"; }
+    echo "$1: $(grep '^test result' "$out/said")"
+}
+
+run_examples_of_documentation() {
+    "$(dirname "$rustc")/rustdoc" --test --edition 2021 --crate-name clomaverift "${crate[@]}" "$here/src/lib.rs" >"$out/said" 2>&1 ||
+        { cat "$out/said" && fail "an example of the documentation failed"; }
+    echo "documentation: $(grep '^test result' "$out/said")"
+}
+
+run_examples() {
+    local bytes
+    "$out/times" "$top/samples/sample.ts" 2>/dev/null | diff "$here/examples/times.txt" - || fail "the example times prints something else"
+    bytes=$("$out/payload" "$top/samples/sample.ts" 256 2>/dev/null | wc -c)
+    [ "$bytes" -eq 7600 ] || fail "the example payload writes $bytes bytes" # four units: tools/sample says how long each is
+    echo "examples: as stored"
+}
+
+need_library
+mkdir -p "$out"
+build_all
+# Rust's own start-up does not run under the toolchain's emulator, and a test has no other.
+on_x86 || { echo "the tests of rust/clomaverift are built, and not run on this machine" && exit 0; }
+for name in modules "${tests[@]}"; do
+    run_tests "$name"
+done
+run_examples_of_documentation
+run_examples

@@ -1,0 +1,121 @@
+//! Damaged recordings of two PIDs: whatever the bytes, the driver finds the units that a plain reading of the events finds.
+
+use clomaverift::{Demux, EventKind, Found, Machine, Packet, PesHeader, Pid};
+use std::collections::BTreeMap;
+
+const SAMPLE: &[u8] = include_bytes!(concat!(env!("CARGO_MANIFEST_DIR"), "/../../samples/sample.ts"));
+const RECORDINGS: u64 = 400;
+
+/// A unit: PID, first packet, payload.
+type Told = (u16, u64, Vec<u8>);
+
+/// Numbers that look random, the same for the same seed.
+struct Rng(u64);
+
+impl Rng {
+    fn below(&mut self, end: usize) -> usize {
+        self.0 = self.0.wrapping_mul(6_364_136_223_846_793_005).wrapping_add(1_442_695_040_888_963_407);
+        (self.0 >> 33) as usize % end
+    }
+}
+
+/// The sample twice, packet by packet, the second time with another PID.
+fn doubled() -> Vec<u8> {
+    let mut recording = Vec::new();
+    for packet in SAMPLE.chunks(Packet::SIZE) {
+        recording.extend(packet);
+        recording.extend(packet);
+        let at = recording.len() - Packet::SIZE;
+        recording[at + 2] = 1;
+    }
+    recording
+}
+
+/// With some bytes changed, most of them in headers, some packets left out and some repeated.
+fn damaged(rng: &mut Rng) -> Vec<u8> {
+    let mut recording = Vec::new();
+    for packet in doubled().chunks_mut(Packet::SIZE) {
+        if rng.below(20) == 0 {
+            let at = [rng.below(24), rng.below(24), rng.below(Packet::SIZE)][rng.below(3)];
+            packet[at] ^= 1 << rng.below(8);
+        }
+        let copies = match rng.below(60) {
+            0 => 0,
+            1 => 2,
+            _ => 1,
+        };
+        (0..copies).for_each(|_| recording.extend(&*packet));
+    }
+    recording
+}
+
+fn found(recording: &[u8]) -> (Vec<Told>, Vec<Told>) {
+    let (mut ended, mut open) = (Vec::new(), Vec::new());
+    let told = |found: Found<'_>, units: &mut Vec<Told>| {
+        if let Found::Unit(unit) = found {
+            units.push((unit.pid.into(), unit.index, unit.payload.to_vec()));
+        }
+    };
+    let mut demux = Demux::new();
+    demux.push(recording, |found| told(found, &mut ended));
+    demux.finish(|found| told(found, &mut open));
+    (ended, open)
+}
+
+/// The same by the events of a machine for each PID, and by the headers.
+fn plain(recording: &[u8]) -> (Vec<Told>, Vec<Told>) {
+    let mut machines = BTreeMap::new();
+    let mut open: BTreeMap<Pid, Told> = BTreeMap::new();
+    let mut ended = Vec::new();
+    for (index, bytes) in recording.chunks(Packet::SIZE).enumerate() {
+        let Ok(packet) = Packet::try_new(bytes) else { continue };
+        let pid = packet.pid();
+        if pid == Pid::STUFFING {
+            continue;
+        }
+        let machine = machines.entry(pid).or_insert_with(Machine::new);
+        machine.rewind();
+        let mut log = [0; 16];
+        machine.step(bytes, &mut log).unwrap();
+        for event in machine.events(&log).map(Result::unwrap) {
+            match event.kind {
+                EventKind::StartStream => (),
+                EventKind::BeginPacket => {
+                    let header = PesHeader::from_bytes(event.bytes(bytes)).unwrap();
+                    let payload = header.payload().unwrap_or_default();
+                    open.insert(pid, (pid.into(), index as u64, payload.to_vec()));
+                }
+                EventKind::ContinuePacket => {
+                    open.entry(pid).and_modify(|(_, _, payload)| payload.extend(event.bytes(bytes)));
+                }
+                EventKind::EndPacket => ended.extend(open.remove(&pid)),
+                EventKind::ContinuityError => {
+                    open.remove(&pid);
+                }
+            }
+        }
+    }
+    (ended, open.into_values().collect())
+}
+
+#[test]
+fn units_are_those_of_a_plain_reading() {
+    let mut units = 0;
+    for seed in 0..RECORDINGS {
+        let recording = damaged(&mut Rng(seed));
+        let told = found(&recording);
+        units += told.0.len() + told.1.len();
+        assert_eq!(told, plain(&recording), "seed {seed}");
+    }
+    assert!(units > RECORDINGS as usize, "only {units} units");
+}
+
+#[test]
+fn bytes_that_are_no_recording() {
+    let mut rng = Rng(1);
+    for _ in 0..RECORDINGS {
+        let mut bytes: Vec<u8> = (0..rng.below(2_000)).map(|_| rng.below(256) as u8).collect();
+        bytes.chunks_mut(Packet::SIZE).for_each(|packet| packet[0] = 0x47);
+        assert_eq!(found(&bytes), plain(&bytes));
+    }
+}

@@ -1,0 +1,28 @@
+//! The event lister's worked example, by this crate: the input and the output that the program events is held to.
+
+use clomaverift::{Event, EventKind, Machine, Packet};
+
+const INPUT: &[u8] = include_bytes!(concat!(env!("CARGO_MANIFEST_DIR"), "/../../crates/events/stdin"));
+const OUTPUT: &str = include_str!(concat!(env!("CARGO_MANIFEST_DIR"), "/../../crates/events/stdout"));
+
+fn line(event: Event) -> String {
+    let name = match event.kind {
+        EventKind::StartStream => "start",
+        EventKind::BeginPacket => "begin",
+        EventKind::ContinuePacket => "continue",
+        EventKind::EndPacket => "end",
+        EventKind::ContinuityError => "error",
+    };
+    format!("{} {name} {} {}", event.index, event.place, event.length)
+}
+
+#[test]
+fn the_worked_example() {
+    let mut machine = Machine::new();
+    let mut log = vec![0; 16 * INPUT.len() / Packet::SIZE];
+    assert_eq!(machine.run(INPUT, &mut log), Ok(()));
+    let mut lines = vec!["packet event place length".to_string()];
+    lines.extend(machine.events(&log).map(|event| line(event.unwrap())));
+    lines.push(format!("packets {}", machine.taken()));
+    assert_eq!(lines, OUTPUT.lines().collect::<Vec<_>>());
+}
