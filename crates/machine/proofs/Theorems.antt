@@ -56,6 +56,9 @@ back-given r = ap (λ (v : Verdict). record { verdict = v; machine = r .machine 
 pub one-step : (m : Machine) (p l : List ℕ) (a b : Stepped) → given a ≡ stepOf m p l → given b ≡ stepOf m p l → a ≡ b
 one-step m p l = one-answer given back back-given (stepOf m p l)
 
+pub one-run : (m : Machine) (ps : List (List ℕ)) (l : List ℕ) (a b : Stepped) → given a ≡ runOf m ps l .answer → given b ≡ runOf m ps l .answer → a ≡ b
+one-run m ps l = one-answer given back back-given (runOf m ps l .answer)
+
 -- ---- how many events a packet gives
 
 nested : (a b : Bool) (e : Event) → length (pick a (pick b (e ∷ []) []) []) ≤ 1
