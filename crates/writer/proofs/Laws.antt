@@ -424,33 +424,36 @@ stuffing-length r h = go (ltb r 184) (ltb r 183) refl refl
     go true false e f = omega (arith, ltb-true r 184 e, ltb-false r 183 f)
     go false b e f = omega (arith, ltb-false r 184 e)
 
--- the four bytes set in a packet of FF
-abbrev pub four-set : ℕ → ℕ → ℕ → List ℕ
-four-set b1 b2 b3 = set (set (set (set (replicate 188 255) 0 71) 1 b1) 2 b2) 3 b3
+-- the four bytes of a packet without an adaptation field
+abbrev pub four-set : List ℕ → ℕ → ℕ → ℕ → List ℕ
+four-set p b1 b2 b3 = set (set (set (set p 0 71) 1 b1) 2 b2) 3 b3
 
 module _ (start id c : ℕ) where
   abbrev pub four : ℕ → List ℕ
   four r = bytesOf 4 (joined (packetTable start id (truth (ltb r 184)) c))
 
-  module _ (r : ℕ) where
+  module _ (r : ℕ) (p : List ℕ) (ff : p ≡ replicate 188 255) where
     pub blank-full : (start ≤ 1) × (id < 2 ^ 13) × (c ≤ 15) × (r ≡ 184)
-        → four-set (start * 64 + id / 256) (id % 256) (16 + c) ≡ four r ++ (stuffing r ++ replicate r 255)
+        → four-set p (start * 64 + id / 256) (id % 256) (16 + c) ≡ four r ++ (stuffing r ++ replicate r 255)
     unfolding stuffing
-    blank-full h = rw (h .3) (ap (λ (t : List ℕ). t ++ replicate 184 255) (four-written start id 0 c (h .0) (h .1) (omega arith) (h .2)))
+    blank-full h = rw (ff, h .3) (ap (λ (t : List ℕ). t ++ replicate 184 255)
+        (four-written start id 0 c (h .0) (h .1) (omega arith) (h .2)))
 
     pub blank-zero : (start ≤ 1) × (id < 2 ^ 13) × (c ≤ 15) × (r ≡ 183)
-        → set (four-set (start * 64 + id / 256) (id % 256) (48 + c)) 4 (183 - r) ≡ four r ++ (stuffing r ++ replicate r 255)
+        → set (set (four-set p (start * 64 + id / 256) (id % 256) (16 + c)) 3 (48 + c)) 4 (183 - r)
+        ≡ four r ++ (stuffing r ++ replicate r 255)
     unfolding stuffing
-    blank-zero h = rw (h .3) (ap (λ (t : List ℕ). t ++ (0 ∷ replicate 183 255))
+    blank-zero h = rw (ff, h .3) (ap (λ (t : List ℕ). t ++ (0 ∷ replicate 183 255))
         (four-written start id 1 c (h .0) (h .1) (omega arith) (h .2)))
 
     pub blank-short : (start ≤ 1) × (id < 2 ^ 13) × (c ≤ 15) × (r < 183)
-        → set (set (four-set (start * 64 + id / 256) (id % 256) (48 + c)) 4 (183 - r)) 5 0 ≡ four r ++ (stuffing r ++ replicate r 255)
+        → set (set (set (four-set p (start * 64 + id / 256) (id % 256) (16 + c)) 3 (48 + c)) 4 (183 - r)) 5 0
+        ≡ four r ++ (stuffing r ++ replicate r 255)
     unfolding stuffing
     blank-short h =
         let n : 182 - r + r ≡ 182 = omega arith in
         let f = four-written start id 1 c (h .0) (h .1) (omega arith) (h .2) in
-        rw (lt-ltb r 184 (omega arith), lt-ltb r 183 (h .3), ← f, replicate-append-replicate {A = ℕ} (182 - r) r 255, n)
+        rw (ff, lt-ltb r 184 (omega arith), lt-ltb r 183 (h .3), ← f, replicate-append-replicate {A = ℕ} (182 - r) r 255, n)
 
   -- the payload over the last bytes of FF
   pub packet-made : (h b x a₁ a₂ : List ℕ) → length h + length b ≤ 184
@@ -531,13 +534,14 @@ module _ (id : ℕ) (body : List ℕ) where
   unfolding rest carried flat
   rest-last left o p c out e = rw e (take-append-drop p out)
 
-  pub rest-turn : (left o p c end : ℕ) (out x after : List ℕ) → 0 < left → o ≤ length body → p + 188 * left ≤ length out
+  pub rest-turn : (left o p c end : ℕ) (out after : List ℕ) → 0 < left → o ≤ length body → p + 188 * left ≤ length out
       → end ≡ o + min 184 (length body - o)
-      → x ≡ carrier 0 id c (take (end - o) (drop o body)) → after ≡ placedAt out p x
-      → rest id body left o p c out ≡ rest id body (left - 1) end (p + 188) ((c + 1) % 16) after
+      → after ≡ placedAt out p (carrier 0 id c (take (end - o) (drop o body)))
+      → (length after ≡ length out) × (rest id body left o p c out ≡ rest id body (left - 1) end (p + 188) ((c + 1) % 16) after)
   unfolding rest flat
-  rest-turn left o p c end out x after h ho hp he hx w =
+  rest-turn left o p c end out after h ho hp he w =
       let ys = drop o body in
+      let x = carrier 0 id c (take (end - o) ys) in
       let b = drop p out in
       let ly : length ys ≡ length body - o = length-drop o body in
       let m : end - o ≡ min 184 (length ys) = omega arith in
@@ -546,7 +550,7 @@ module _ (id : ℕ) (body : List ℕ) where
       (let s : end ≡ o + (end - o) = omega arith in ap (λ (k : ℕ). drop k body) s
       ∙ (sym (drop-drop (end - o) o body) ∙ drop-least 184 (end - o) ys m)) in
       let lt : length (take 184 ys) ≤ 184 = simp length-take (omega arith) in
-      let q : x ≡ carrier 0 id c (take 184 ys) = hx ∙ ap (carrier 0 id c) tx in
+      let q : x ≡ carrier 0 id c (take 184 ys) = ap (carrier 0 id c) tx in
       let lx : length x ≡ 188 = ap length q ∙ carrier-length 0 id c (take 184 ys) lt in
       let la : length (take p out) ≡ p = length-take-le p out (omega arith) in
       let lb : length b ≡ length out - p = length-drop p out in
@@ -557,8 +561,10 @@ module _ (id : ℕ) (body : List ℕ) where
       let ta : take (p + 188) after ≡ take p out ++ x = ap (take (p + 188)) f ∙ take-at (take p out ++ x) (drop 188 b) (p + 188) lf in
       let da : drop (p + 188) after ≡ drop 188 b = ap (drop (p + 188)) f ∙ drop-at (take p out ++ x) (drop 188 b) (p + 188) lf in
       let r = flat (carried (left - 1) 0 id ((c + 1) % 16) (drop 184 ys)) in
-      let n : 188 + 188 * (left - 1) ≡ 188 * left = omega arith in
-      rw (carried-one left 0 id c ys h, ← q, ta, da, dx, drop-drop (188 * (left - 1)) 188 b, n) (simp append-assoc)
+      let n : 188 + 188 * (left - 1) ≡ 188 * left = omega arith in (
+        ap length w ∙ length-placed out p x,
+        rw (carried-one left 0 id c ys h, ← q, ta, da, dx, drop-drop (188 * (left - 1)) 188 b, n) (simp append-assoc),
+      )
 
 -- ---- the first packet, and then the rest
 
@@ -566,17 +572,18 @@ pub count-some : (u : Unit) (n : ℕ) → 1 ≤ countOf u n
 unfolding countOf
 count-some u n = omega arith
 
-pub packets-made : (r : Route) (u : Unit) (payload out : List ℕ) (d first count : ℕ) (ff head x after tail : List ℕ)
+pub packets-made : (r : Route) (u : Unit) (payload out : List ℕ) (d first count : ℕ) (ff head after tail : List ℕ)
     → length ff ≡ 32 → head ≡ placedAt ff 0 (headerImage u (length payload)) → (d ≡ dataOf u) × (d ≤ 23)
     → first ≡ min (184 - (9 + d)) (length payload)
-    → x ≡ carrier 1 (r .pid) (r .counter) (take (9 + d) head ++ take first payload) → after ≡ placedAt out 0 x
+    → after ≡ placedAt out 0 (carrier 1 (r .pid) (r .counter) (take (9 + d) head ++ take first payload))
     → tail ≡ flat (carried (count - 1) 0 (r .pid) ((r .counter + 1) % 16) (take (length payload - first) (drop first payload))) ++ drop
     (188 * (count - 1)) (take (length after - 188) (drop 188 after))
     → count ≡ countOf u (length payload) → 188 * count ≤ length out
     → take 188 after ++ (tail ++ drop (length after - 188) (drop 188 after)) ≡ flat (packetsOf r u payload) ++ drop (188 * count) out
 unfolding packetsOf flat
-packets-made r u payload out d first count ff head x after tail lff eh ed ef ex ea et ec ho =
+packets-made r u payload out d first count ff head after tail lff eh ed ef ea et ec ho =
     let n = length payload in
+    let x = carrier 1 (r .pid) (r .counter) (take (9 + d) head ++ take first payload) in
     let h = headerImage u n in
     let some = count-some u n in
     let lh : length h ≡ 9 + d = header-length u n ∙ ap (λ (k : ℕ). 9 + k) (sym (ed .0)) in
@@ -590,7 +597,7 @@ packets-made r u payload out d first count ff head x after tail lff eh ed ef ex 
     = ap (λ (k : ℕ). drop k (h ++ payload)) w ∙
     (drop-append-add h payload (184 - (9 + d)) ∙ sym (drop-least (184 - (9 + d)) first payload ef)) in
     let lt : length (take 184 (h ++ payload)) ≤ 184 = simp length-take (omega arith) in
-    let q : x ≡ carrier 1 (r .pid) (r .counter) (take 184 (h ++ payload)) = ex ∙ rw (hh, tk) in
+    let q : x ≡ carrier 1 (r .pid) (r .counter) (take 184 (h ++ payload)) = rw (hh, tk) in
     let lx : length x ≡ 188 = ap length q ∙ carrier-length 1 (r .pid) (r .counter) (take 184 (h ++ payload)) lt in
     let fa : after ≡ x ++ drop 188 out = ea ∙ (placed-at [] out 0 x refl (omega arith) ∙ rw lx) in
     let ta : take 188 after ≡ x = ap (take 188) fa ∙ take-at x (drop 188 out) 188 lx in

@@ -506,39 +506,47 @@ fn header(unit: Unit, size: usize) -> [u8; 32]
 
 // ---- a packet
 
-// A packet of FF with its fields set, before its bytes of payload come to stand at its end.
-fn blank(start: u8, pid: u16, counter: u8, size: usize) -> [u8; 188]
-    requires { ⌜ (start ≤ 1) × (pid < 2 ^ 13) × (counter ≤ 15) × (size ≤ 184) ⌝ }
-    ensures { λ r. ⌜ r ≡ bytesOf 4 (joined (packetTable start pid (truth (ltb size 184)) counter))
+// The fields of a packet in an image of FF, before its bytes of payload come to stand at its end.
+fn set_fields(start: u8, pid: u16, counter: u8, size: usize, p: &mut [u8])
+    requires { ⌜ (start ≤ 1) × (pid < 2 ^ 13) × (counter ≤ 15) × (size ≤ 184) × (now p ≡ replicate 188 255) × (length (now p) ≡ 188) ⌝ }
+    ensures { λ _. ⌜ now (p .exit) ≡ bytesOf 4 (joined (packetTable start pid (truth (ltb size 184)) counter))
         ++ (stuffing size ++ replicate size 255) ⌝ }
 {
-    let mut p = [0xFFu8; 188];
     p[0] = 0x47;
     p[1] = start * 64 + (pid / 256) as u8;
     p[2] = (pid % 256) as u8;
     p[3] = 16 + counter;
     if size == 184 {
-        return p;
+        return;
     }
     p[3] = 48 + counter;
     p[4] = (183 - size) as u8;
     if size == 183 {
-        return p;
+        return;
     }
     p[5] = 0;
-    p
 }
 
-// A packet whose payload is that of two parts, one after the other.
-fn packet(start: u8, pid: u16, counter: u8, head: &[u8], body: &[u8]) -> [u8; 188]
+// A packet whose payload is that of two parts, one after the other, at a place in the output.
+fn put_packet(
+    start: u8,
+    pid: u16,
+    counter: u8,
+    head: &[u8],
+    body: &[u8],
+    out: &mut [u8],
+    place: usize,
+)
     requires { ⌜ (start ≤ 1) × (pid < 2 ^ 13) × (counter ≤ 15) × (length (now head) + length (now body) ≤ 184) ⌝ }
-    ensures { λ r. ⌜ r ≡ carrier start pid counter (now (head .entry) ++ now (body .entry)) ⌝ }
+    ensures { λ _. ⌜ now (out .exit)
+        ≡ placedAt (now (out .entry)) place (carrier start pid counter (now (head .entry) ++ now (body .entry))) ⌝ }
 {
     let size = head.len() + body.len();
-    let mut p = blank(start, pid, counter, size);
+    let mut p = [0xFFu8; 188];
+    set_fields(start, pid, counter, size, &mut p);
     copy_at(head, &mut p, 188 - size);
     copy_at(body, &mut p, 188 - body.len());
-    p
+    copy_at(&p, out, place);
 }
 
 // ---- the packets of a unit
@@ -563,8 +571,7 @@ fn put_rest(pid: u16, counter: u8, body: &[u8], count: usize, out: &mut [u8])
     let mut next = counter;
     while 0 < left {
         let end = at + least(184, body.len() - at);
-        let p = packet(0, pid, next, &body[..0], &body[at..end]);
-        copy_at(&p, out, place);
+        put_packet(0, pid, next, &body[..0], &body[at..end], out, place);
         next = (next + 1) % 16;
         at = end;
         place += 188;
@@ -583,8 +590,7 @@ fn put_packets(route: Route, unit: Unit, payload: &[u8], count: usize, out: &mut
     let head = header(unit, payload.len());
     let size = 9 + data_bytes(unit) as usize;
     let first = least(184 - size, payload.len());
-    let p = packet(1, pid, counter, &head[..size], &payload[..first]);
-    copy_at(&p, out, 0);
+    put_packet(1, pid, counter, &head[..size], &payload[..first], out, 0);
     put_rest(
         pid,
         (counter + 1) % 16,

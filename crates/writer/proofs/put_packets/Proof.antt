@@ -7,59 +7,57 @@ use borrow.Author.Needs.{needs}
 use Rattle.writer.proofs.put_packets.Statement.{statement}
 use Rattle.writer.proofs.put_packets.Tie as tie
 
-slice-aggregate-packet : tie.Need-slice-aggregate-packet
-slice-aggregate-packet c =
+slice-aggregate-put-packet : tie.Need-slice-aggregate-put-packet
+slice-aggregate-put-packet c =
     let b2 = c .before .before in
     let b3 = b2 .before in
     omega (arith, length-take (9 + b2 .data-bytes .result) (b3 .header .result))
 
-slice-aggregate-packet-2 : tie.Need-slice-aggregate-packet-2
-slice-aggregate-packet-2 c =
+slice-aggregate-put-packet-2 : tie.Need-slice-aggregate-put-packet-2
+slice-aggregate-put-packet-2 c =
     let b2 = c .before .before in
     let b7 = b2 .before .before .before .before .before in
     omega (arith, length-take (b2 .least .result) (b7 .args .payload .now))
 
-packet-requires : tie.Need-packet-requires
-packet-requires c κs =
-    let b2 = c .before .before in
-    let b3 = b2 .before in
+put-packet-requires : tie.Need-put-packet-requires
+put-packet-requires c κs =
+    let b3 = c .before .before .before in
     let b4 = b3 .before in
-    let b7 = b4 .before .before .before in (
+    let b5 = b4 .before in
+    let b8 = b5 .before .before .before in (
       search needs,
-      b7 .pre .0,
-      b7 .pre .1,
+      b8 .pre .0,
+      b8 .pre .1,
       omega
-          (arith, length-take (9 + b3 .data-bytes .result) (b4 .header .result), length-take (b2 .least .result) (b7 .args .payload .now)),
+          (arith, length-take (9 + b4 .data-bytes .result) (b5 .header .result), length-take (b3 .least .result) (b8 .args .payload .now)),
     )
 
 sub-put-rest-2 : tie.Need-sub-put-rest-2
 sub-put-rest-2 c =
-    let b14 = c .before .before .before .before .before .before .before .before .before .before .before .before .before .before in
-    omega (arith, count-some (b14 .args .unit) (length (b14 .args .payload .now)))
+    let b12 = c .before .before .before .before .before .before .before .before .before .before .before .before in
+    omega (arith, count-some (b12 .args .unit) (length (b12 .args .payload .now)))
 
 sub-put-rest-3 : tie.Need-sub-put-rest-3
 sub-put-rest-3 c =
-    let b14 = c .before .before .before .before .before .before .before .before .before .before .before .before .before .before in
-    omega (arith, count-some (b14 .args .unit) (length (b14 .args .payload .now)))
+    let b12 = c .before .before .before .before .before .before .before .before .before .before .before .before in
+    omega (arith, count-some (b12 .args .unit) (length (b12 .args .payload .now)))
 
 part-put-rest-start-2 : tie.Need-part-put-rest-start-2
 part-put-rest-start-2 c =
-    let b14 = c .before .before .before .before .before .before .before .before .before .before .before .before .before .before in
-    omega (arith, count-some (b14 .args .unit) (length (b14 .args .payload .now)))
+    let b12 = c .before .before .before .before .before .before .before .before .before .before .before .before in
+    omega (arith, count-some (b12 .args .unit) (length (b12 .args .payload .now)))
 
 returns : tie.Need-returns
 returns c =
     let b2 = c .before .before in
     let b7 = b2 .before .before .before .before .before in
-    let b10 = b7 .before .before .before in
-    let b13 = b10 .before .before .before in
-    let b14 = b13 .before in
-    let b15 = b14 .before in
-    let b18 = b15 .before .before .before in
-    let s = b18 in
-    packets-made (s .args .route) (s .args .unit) (s .args .payload .now) (s .args .out .now) (b14 .data-bytes .result)
-    (b13 .least .result) (s .args .count) _ _ _ _ _ refl (b15 .header .ensures) (b14 .data-bytes .ensures) (b13 .least .ensures)
-    (b10 .packet .ensures) (b7 .copy-at .ensures) (b2 .put-rest .ensures) (s .pre .4) (s .pre .5)
+    let b11 = b7 .before .before .before .before in
+    let b12 = b11 .before in
+    let b13 = b12 .before in
+    let s = b13 .before .before .before in
+    packets-made (s .args .route) (s .args .unit) (s .args .payload .now) (s .args .out .now) (b12 .data-bytes .result)
+    (b11 .least .result) (s .args .count) _ _ _ _ refl (b13 .header .ensures) (b12 .data-bytes .ensures) (b11 .least .ensures)
+    (b7 .put-packet .ensures) (b2 .put-rest .ensures) (s .pre .4) (s .pre .5)
 
 pub put-packets-spec : {M : Type 1} → statement M
 put-packets-spec =
@@ -72,11 +70,9 @@ put-packets-spec =
     (λ c. search needs)
     (λ c κs. search needs)
     (λ c. search needs)
-    slice-aggregate-packet
-    slice-aggregate-packet-2
-    packet-requires
-    (λ c. search needs)
-    (λ c κs. search needs)
+    slice-aggregate-put-packet
+    slice-aggregate-put-packet-2
+    put-packet-requires
     (λ c. search needs)
     (λ c. search needs)
     (λ c. search needs)

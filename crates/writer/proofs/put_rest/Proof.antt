@@ -1,5 +1,4 @@
 -- The loop's invariant: what the output comes to, from what is written and what is left, is the same at each turn.
-use Rattle.bits.proofs.Parts.{length-placed}
 use mathlib.Core.Path.{_≡_, refl, sym, ap, _∙_}
 use Prim.Native.Nat.{ℕ, _+_, _-_, _*_, _≤_}
 use native.Mathlib.Omega.{arith}
@@ -23,17 +22,13 @@ loop-holds c = (search needs, search needs, search needs, refl, refl)
 loop-again : tie.Need-loop-again Inv-loop μ-loop
 loop-again c =
     let b2 = c .before .before in
-    let b5 = b2 .before .before .before in
-    let b8 = b5 .before .before .before in
-    let b9 = b8 .before in
-    let b10 = b9 .before in
-    let t = b10 in
+    let b6 = b2 .before .before .before .before in
+    let b7 = b6 .before in
+    let t = b7 .before in
     let l = t .loop in
-    let k = b2 .copy-at .ensures in
-    let same = ap length k ∙ length-placed (l .out) (l .place) (b5 .packet .result) in
-    let q = rest-turn _ _ (l .left) (l .at) (l .place) (l .next) (l .at + b8 .least .result) _ _ _ (b9 .loop-test .taken) (l .inv .0)
-    (l .inv .2) (ap (λ (n : ℕ). l .at + n) (b8 .least .ensures)) (b5 .packet .ensures) k in
-    (omega arith, omega arith, omega arith, same ∙ l .inv .3, l .inv .4 ∙ q)
+    let q = rest-turn _ _ (l .left) (l .at) (l .place) (l .next) (l .at + b6 .least .result) _ _ (b7 .loop-test .taken) (l .inv .0)
+    (l .inv .2) (ap (λ (n : ℕ). l .at + n) (b6 .least .ensures)) (b2 .put-packet .ensures) in
+    (omega arith, omega arith, omega arith, q .0 ∙ l .inv .3, l .inv .4 ∙ q .1)
 
 returns : tie.Need-returns Inv-loop μ-loop
 returns c =
@@ -57,8 +52,6 @@ put-rest-spec =
     (λ c. search needs)
     (λ c. search needs)
     (λ c. search needs)
-    (λ c. search needs)
-    (λ c κs. search needs)
     (λ c. search needs)
     (λ c κs. search needs)
     (λ c. search needs)
