@@ -347,10 +347,10 @@ fn compare_kept(plan: &Plan) -> Tally {
 /// The oracle asserts that a rate is below this.
 const RATES: u32 = 1 << 22;
 
-const RATE: Function<u32, 1> =
+pub const RATE: Function<u32, 1> =
     Function { code: 0x61, name: "es_rate::new", must: &[0, 14], library: host::es_rate_new, answer: rate };
 
-const RATE_BYTES: Function<u32, 1> = Function {
+pub const RATE_BYTES: Function<u32, 1> = Function {
     code: 0x62,
     name: "es_rate::bytes_per_second",
     must: &[0, 14],

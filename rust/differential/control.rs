@@ -74,7 +74,7 @@ const LONGEST: usize = 16;
 type Slice = slice::Slice<LONGEST>;
 
 const NAME: &str = "clock_ref::from_slice";
-const READINGS: [Reading; 1] = [Reading::new(0x10, NAME, &[0, 1], host::CLOCK_REF_FROM_SLICE, clock)];
+pub const READINGS: [Reading; 1] = [Reading::new(0x10, NAME, &[0, 1], host::CLOCK_REF_FROM_SLICE, clock)];
 
 /// The oracle's answer. It panics under 6 bytes: the answer there is 1.
 fn clock(bytes: &[u8]) -> Answer {
@@ -127,7 +127,7 @@ type Parts = (u64, u16);
 const BASES: u64 = 1 << 33;
 const EXTENSIONS: u16 = 1 << 9;
 
-const FROM_PARTS: Function<Parts, 2> = Function {
+pub const FROM_PARTS: Function<Parts, 2> = Function {
     code: 0x11,
     name: "clock_ref::from_parts",
     must: &[0, 14],
@@ -135,7 +135,7 @@ const FROM_PARTS: Function<Parts, 2> = Function {
     answer: made,
 };
 
-const INTO_U64: Function<Parts, 1> = Function {
+pub const INTO_U64: Function<Parts, 1> = Function {
     code: 0x12,
     name: "clock_ref::into_u64",
     must: &[0, 14],
@@ -199,7 +199,7 @@ fn random_parts(rng: &mut Rng) -> Parts {
 
 type Pair = (Parts, Parts);
 
-const EQ: Function<Pair, 1> = Function {
+pub const EQ: Function<Pair, 1> = Function {
     code: 0x13,
     name: "clock_ref::eq",
     must: &[0, 14],
@@ -244,7 +244,7 @@ fn random_pair(rng: &mut Rng) -> Pair {
 
 // ---- Counters.
 
-const COUNTER: Function<u8, 1> = Function {
+pub const COUNTER: Function<u8, 1> = Function {
     code: 0x14,
     name: "continuity_counter::new",
     must: &[0, 14],
@@ -252,7 +252,7 @@ const COUNTER: Function<u8, 1> = Function {
     answer: counter,
 };
 
-const FOLLOWS: Function<(u8, u8), 1> = Function {
+pub const FOLLOWS: Function<(u8, u8), 1> = Function {
     code: 0x15,
     name: "continuity_counter::follows",
     must: &[0, 14],
@@ -281,10 +281,10 @@ fn every_pair_of_bytes() -> impl Iterator<Item = (u8, u8)> {
 
 // ---- PIDs.
 
-const PID: Function<u16, 1> =
+pub const PID: Function<u16, 1> =
     Function { code: 0x16, name: "pid::new", must: &[0, 14], library: host::pid_new, answer: pid };
 
-const PID_TRIED: Function<u16, 1> = Function {
+pub const PID_TRIED: Function<u16, 1> = Function {
     code: 0x17,
     name: "pid::try_from",
     must: &[0, 14],
@@ -309,7 +309,7 @@ fn corner_pids() -> impl Iterator<Item = u16> {
 
 // ---- Control bits. The oracle makes them of a packet only.
 
-const ADAPTATION_CONTROL: Function<u8, 2> = Function {
+pub const ADAPTATION_CONTROL: Function<u8, 2> = Function {
     code: 0x18,
     name: "adaptation_control",
     must: &[0],
@@ -317,7 +317,7 @@ const ADAPTATION_CONTROL: Function<u8, 2> = Function {
     answer: |byte| adaptation_control(&Packet::new(&packet_of(byte))),
 };
 
-const SCRAMBLING_CONTROL: Function<u8, 2> = Function {
+pub const SCRAMBLING_CONTROL: Function<u8, 2> = Function {
     code: 0x19,
     name: "transport_scrambling_control",
     must: &[0],

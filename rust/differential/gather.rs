@@ -91,24 +91,24 @@ impl Lending<'_> {
 // ---- Single events.
 
 /// The largest store of a single event, and the longest packet.
-const LARGEST: usize = 500;
-const LONGEST: usize = SIZE + 1;
+pub const LARGEST: usize = 500;
+pub const LONGEST: usize = SIZE + 1;
 
 /// The bytes of a packet, as the numbers of an event and a state have them.
 const WHOLE_PACKET: u64 = SIZE as u64;
 
 const KINDS: [u64; 5] = [event::START, event::BEGIN, event::CONTINUE, event::END, event::ERROR];
 
-struct Cases {
+pub struct Cases {
     gather: Tally,
     bytes: Tally,
-    rng: Rng,
+    pub rng: Rng,
     packet: Lent,
     store: Lent,
 }
 
 impl Cases {
-    fn new(rng: Rng) -> Cases {
+    pub fn new(rng: Rng) -> Cases {
         Cases {
             gather: Tally::new("gather::gather", &[0, 1, 2, 14, 20]),
             bytes: Tally::new("gather::bytes", &[0, 1, 2, 14]),
@@ -119,7 +119,7 @@ impl Cases {
     }
 
     /// An event in a state, and the bytes in that state.
-    fn take(&mut self, state: Gathering, packet: &[u8], event: Event, room: usize) {
+    pub fn take(&mut self, state: Gathering, packet: &[u8], event: Event, room: usize) {
         let mut filling = [0; LARGEST];
         self.rng.fill(&mut filling[..room]);
         let guard = self.rng.next() as u8;

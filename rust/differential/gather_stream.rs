@@ -10,9 +10,8 @@ use crate::host_gather::{Gathering, STORE};
 use crate::lent::Lent;
 use crate::machine::payload_at;
 use crate::machine_stream::make_stream;
-use crate::report;
 use crate::rng::Rng;
-use crate::tally::{grouped, Tally};
+use crate::tally::{grouped, report, Tally};
 use std::time::Instant;
 
 /// The most packets of a random stream.
@@ -56,7 +55,7 @@ fn starts(packet: &[u8]) -> bool {
     packet[1] & 0x40 != 0
 }
 
-struct Walk {
+pub struct Walk {
     gather: Tally,
     bytes: Tally,
     unit: Tally,
@@ -69,7 +68,7 @@ struct Walk {
 
 impl Walk {
     /// Room for streams of so many packets; the numbers that have to be among the answers.
-    fn new(most: usize, [gather, bytes, unit]: [&'static [usize]; 3]) -> Walk {
+    pub fn new(most: usize, [gather, bytes, unit]: [&'static [usize]; 3]) -> Walk {
         let mut filling = vec![0; (most + 1) * SIZE];
         Rng::new(most as u64).fill(&mut filling);
         Walk {
@@ -85,7 +84,7 @@ impl Walk {
     }
 
     /// Once with a store that the longest unit fills or nearly, or that is longer; and once with one that may be too small.
-    fn stream(&mut self, packets: &[u8], rng: &mut Rng) {
+    pub fn stream(&mut self, packets: &[u8], rng: &mut Rng) {
         let mut oracle = Oracle::heard_by(Gatherer::new(usize::MAX));
         packets.chunks_exact(SIZE).for_each(|packet| oracle.take(packet));
         let most = oracle.listener().most;

@@ -80,23 +80,23 @@ fn can_be_reached(state: State) -> bool {
 
 // ---- Single steps.
 
-struct Cases {
+pub struct Cases {
     step: Tally,
     /// Steps from the states that the oracle cannot be brought to.
     ruled: Tally,
     /// The rules that those are held against, in the other states.
     rules: Tally,
-    rng: Rng,
+    pub rng: Rng,
     packet: Lent,
     log: Lent,
 }
 
 /// The longest packet and the longest log of a single step.
-const LONGEST_PACKET: usize = SIZE + 1;
-const LONGEST_LOG: usize = 40;
+pub const LONGEST_PACKET: usize = SIZE + 1;
+pub const LONGEST_LOG: usize = 40;
 
 impl Cases {
-    fn new(rng: Rng) -> Cases {
+    pub fn new(rng: Rng) -> Cases {
         Cases {
             step: Tally::new("machine::step", &[0, 1, 2, 14, 15, 16]),
             ruled: Tally::new("machine::step, by the rules: phases without a counter", &[0, 15]),
@@ -108,7 +108,7 @@ impl Cases {
     }
 
     /// Steps over a packet, with a log of this length, and gives the state that is to be after it.
-    fn step(&mut self, state: State, packet: &[u8], room: usize) -> State {
+    pub fn step(&mut self, state: State, packet: &[u8], room: usize) -> State {
         let guard = self.rng.next() as u8;
         let filling: [u64; LONGEST_LOG / 8] = std::array::from_fn(|_| self.rng.next());
         let filling = filling.map(u64::to_be_bytes);
@@ -281,14 +281,18 @@ fn every_packet_fault(packet: &[u8; SIZE]) -> Vec<Vec<u8>> {
 /// What an out number holds before a call: no answer.
 const HELD: u64 = 0xa5a5_a5a5_a5a5_a5a5;
 
-struct Entries {
+pub struct Entries {
     tally: Tally,
     log: Lent,
 }
 
 impl Entries {
+    pub fn new() -> Entries {
+        Entries { tally: Tally::new("log::entry_at", &[0, 14]), log: Lent::new(LONGEST_LOG) }
+    }
+
     /// Reads an entry; what it is to be the driver decodes itself.
-    fn read(&mut self, log: &[u8], at: usize, guard: u8) {
+    pub fn read(&mut self, log: &[u8], at: usize, guard: u8) {
         self.log.set(log, guard);
         let expected = match log.get(at..).and_then(<[u8]>::first_chunk).filter(|_| at % ENTRY == 0) {
             Some(entry) => entry_answer(*entry),
@@ -316,7 +320,7 @@ const LOGS: [[u8; ENTRY]; 3] = [
 /// Every kind with every value of the bits that have to be clear, each bit of an entry alone, every place in logs of every length,
 /// and random bits.
 fn compare_entries(rng: &mut Rng) -> Tally {
-    let mut entries = Entries { tally: Tally::new("log::entry_at", &[0, 14]), log: Lent::new(LONGEST_LOG) };
+    let mut entries = Entries::new();
     for (kind, low) in (0..16).flat_map(|kind| (0..4096).map(move |low| (kind, low))) {
         let bits = rng.next() >> 16 << 12 & u64::MAX >> 4 | kind << 60;
         [low, 0].into_iter().for_each(|low| entries.read(&(bits | low).to_be_bytes(), 0, rng.next() as u8));

@@ -6,9 +6,8 @@ use crate::files::Files;
 use crate::host_machine::{log_entry_at, State, IGNORE_REST, RUN, STARTED, STEP};
 use crate::lent::Lent;
 use crate::machine::{entry_answer, set_head, Call};
-use crate::report;
 use crate::rng::Rng;
-use crate::tally::{grouped, Tally};
+use crate::tally::{grouped, report, Tally};
 use mpeg2ts_reader::packet::Packet;
 use std::time::Instant;
 
@@ -97,7 +96,7 @@ impl Told {
 
 // ---- A stream, by steps and by runs.
 
-struct Walk {
+pub struct Walk {
     step: Tally,
     run: Tally,
     entry_at: Tally,
@@ -123,7 +122,7 @@ struct Piece {
 
 impl Walk {
     /// Room for streams of so many packets; the numbers that have to be among the answers.
-    fn new(most: usize, [step, run, entry_at]: [&'static [usize]; 3]) -> Walk {
+    pub fn new(most: usize, [step, run, entry_at]: [&'static [usize]; 3]) -> Walk {
         let log = 2 * ENTRY * most + STEP_LOG;
         let mut filling = vec![0; log];
         Rng::new(most as u64).fill(&mut filling);
@@ -139,7 +138,7 @@ impl Walk {
         }
     }
 
-    fn stream(&mut self, packets: &[u8], first: State, rng: &mut Rng) {
+    pub fn stream(&mut self, packets: &[u8], first: State, rng: &mut Rng) {
         let told = Told::new(first, packets);
         self.packets.set(packets, rng.next() as u8);
         self.steps(&told, rng);

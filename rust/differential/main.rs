@@ -56,7 +56,7 @@ use module::{Module, Plan};
 use record::Sample;
 use std::path::Path;
 use std::time::Instant;
-use tally::{grouped, Tally};
+use tally::{grouped, report, total, Tally};
 
 /// The modules, in the order of their codes.
 const MODULES: [Module; 9] = [
@@ -140,18 +140,9 @@ fn compare_module(module: &Module, options: &Options) -> Vec<Tally> {
     tallies
 }
 
-/// Prints a line for each function and one for all, and says whether nothing differs.
-fn report(name: &str, began: Instant, tallies: &[Tally]) -> bool {
-    tallies.iter().for_each(|tally| println!("{tally}"));
-    total(name, began, tallies.iter());
-    tallies.iter().all(|tally| tally.differ() == 0)
-}
-
-/// Prints what was compared in all, and how long it took.
-fn total<'a>(name: &str, began: Instant, tallies: impl Iterator<Item = &'a Tally>) {
-    let (compared, differ) = tallies.fold((0, 0), |(c, d), tally| (c + tally.compared(), d + tally.differ()));
-    let seconds = began.elapsed().as_secs_f64();
-    println!("{name}: {} answers compared, {} differ ({seconds:.1} s)", grouped(compared), grouped(differ));
+/// Where something differs: it is printed, and the comparison goes on.
+fn differs(text: &str) {
+    println!("{text}");
 }
 
 fn record(dir: &str) -> bool {

@@ -40,7 +40,7 @@ fn record(sample: &mut Sample) {
     reading::record(sample, &READINGS, (0..25).map(|_| random_packet(&mut rng)));
 }
 
-const IS_SYNC_BYTE: Function<u8, 1> = Function {
+pub const IS_SYNC_BYTE: Function<u8, 1> = Function {
     code: 0x20,
     name: "packet::is_sync_byte",
     must: &[0],

@@ -2,8 +2,8 @@
 
 use crate::kept::Keeps;
 use crate::reading::Readings;
-use crate::tally::{grouped, Tally};
-use crate::{adaptation, contents, head, packet, report};
+use crate::tally::{grouped, report, Tally};
+use crate::{adaptation, contents, head, packet};
 use mpeg2ts_reader::packet::{AdaptationField, Packet};
 use std::fs;
 use std::time::Instant;
@@ -24,7 +24,7 @@ pub fn read(file: &str) -> Option<Vec<u8>> {
     fs::read(file).map_err(|error| eprintln!("differential: {file}: {error}")).ok()
 }
 
-struct Walk {
+pub struct Walk {
     packet: Readings,
     field: Readings,
     extension: Readings,
@@ -33,7 +33,7 @@ struct Walk {
 }
 
 impl Walk {
-    fn new() -> Walk {
+    pub fn new() -> Walk {
         Walk {
             packet: Readings::of_streams(&packet::READINGS, Packet::SIZE),
             field: Readings::of_streams(&adaptation::FIELD, Packet::SIZE),
@@ -51,7 +51,7 @@ impl Walk {
         true
     }
 
-    fn packet(&mut self, bytes: &[u8], guard: u8) {
+    pub fn packet(&mut self, bytes: &[u8], guard: u8) {
         self.packet.compare(bytes, guard);
         if bytes.len() != Packet::SIZE {
             return;

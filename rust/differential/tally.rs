@@ -4,6 +4,7 @@ use crate::answer::{Answer, MOST, NUMBERS};
 use crate::host::Reader;
 use crate::lent::Lent;
 use std::fmt;
+use std::time::Instant;
 
 /// How many differences of a function are printed with their input.
 const SHOWN: u64 = 5;
@@ -144,7 +145,7 @@ impl Tally {
     fn report(&mut self, expected: &Answer, input: impl FnOnce() -> String, given: impl FnOnce() -> String) {
         self.differ += 1;
         if self.differ <= SHOWN {
-            println!("DIFFERS {}: expected {expected}, given {}, of {}", self.name, given(), input());
+            crate::differs(&format!("DIFFERS {}: expected {expected}, given {}, of {}", self.name, given(), input()));
         }
     }
 
@@ -168,6 +169,20 @@ impl fmt::Display for Tally {
         write!(f, ", {} differ", grouped(self.differ))?;
         self.missing().try_for_each(|number| write!(f, ", NEVER GAVE {number}"))
     }
+}
+
+/// Prints a line for each function and one for all, and says whether nothing differs.
+pub fn report(name: &str, began: Instant, tallies: &[Tally]) -> bool {
+    tallies.iter().for_each(|tally| println!("{tally}"));
+    total(name, began, tallies.iter());
+    tallies.iter().all(|tally| tally.differ() == 0)
+}
+
+/// Prints what was compared in all, and how long it took.
+pub fn total<'a>(name: &str, began: Instant, tallies: impl Iterator<Item = &'a Tally>) {
+    let (compared, differ) = tallies.fold((0, 0), |(c, d), tally| (c + tally.compared(), d + tally.differ()));
+    let seconds = began.elapsed().as_secs_f64();
+    println!("{name}: {} answers compared, {} differ ({seconds:.1} s)", grouped(compared), grouped(differ));
 }
 
 /// A number with a comma between groups of three digits.

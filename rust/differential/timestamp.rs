@@ -57,7 +57,7 @@ fn record(sample: &mut Sample) {
 
 // ---- The readings of a slice.
 
-const READINGS: [Reading; 3] = [
+pub const READINGS: [Reading; 3] = [
     Reading::new(0x01, "timestamp::from_pts_bytes", &[0, 1, 12, 13], host::TIMESTAMP_FROM_PTS_BYTES, |bytes| {
         read(bytes, Timestamp::from_pts_bytes)
     }),
@@ -202,7 +202,7 @@ fn random_slice(rng: &mut Rng) -> Slice {
 
 // ---- Numbers.
 
-const FROM_U64: Function<u64, 1> = Function {
+pub const FROM_U64: Function<u64, 1> = Function {
     code: 0x04,
     name: "timestamp::from_u64",
     must: &[0, 14],
@@ -236,7 +236,7 @@ fn random_number(rng: &mut Rng) -> u64 {
 
 type Pair = (u64, u64);
 
-const WRAPPED: Function<Pair, 1> = Function {
+pub const WRAPPED: Function<Pair, 1> = Function {
     code: 0x05,
     name: "timestamp::likely_wrapped_since",
     must: &[0, 14],

@@ -17,7 +17,7 @@ pub const MODULE: Module = Module { name: "writer", count: 200_000, compare, rec
 const SIZE: usize = Packet::SIZE;
 
 /// The longest payload that is tried, and the most bytes that are lent for its packets: more than the longest unit takes.
-const LONGEST: usize = 70_000;
+pub const LONGEST: usize = 70_000;
 const ROOM: usize = (LONGEST / CARRIED + 4) * SIZE;
 
 fn compare(plan: &Plan) -> Vec<Tally> {
@@ -29,10 +29,10 @@ fn compare(plan: &Plan) -> Vec<Tally> {
     cases.into_tallies()
 }
 
-struct Cases {
+pub struct Cases {
     write: Tally,
     read_back: ReadBack,
-    rng: Rng,
+    pub rng: Rng,
     /// Payloads are parts of this, and what the output holds before is.
     filling: Vec<u8>,
     payload: Lent,
@@ -44,10 +44,10 @@ struct Cases {
 
 /// A unit to write: the bytes of its payload, and how many bytes are lent beside those that the packets take.
 #[derive(Clone, Copy, Debug)]
-struct Case {
-    unit: Unit,
-    size: usize,
-    beside: isize,
+pub struct Case {
+    pub unit: Unit,
+    pub size: usize,
+    pub beside: isize,
 }
 
 impl Case {
@@ -57,7 +57,7 @@ impl Case {
 }
 
 impl Cases {
-    fn new(mut rng: Rng) -> Cases {
+    pub fn new(mut rng: Rng) -> Cases {
         let mut filling = vec![0; LONGEST + ROOM];
         rng.fill(&mut filling);
         Cases {
@@ -72,7 +72,7 @@ impl Cases {
         }
     }
 
-    fn write(&mut self, case: &Case) {
+    pub fn write(&mut self, case: &Case) {
         let Case { unit, size, .. } = case;
         let (room, from, guard) = (case.room(), self.rng.below(CARRIED), self.rng.next() as u8);
         let expected = unit.answer(*size, room);

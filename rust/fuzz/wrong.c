@@ -1,0 +1,66 @@
+/* Entries that are wrong in a rare case, to show that the fuzzer finds it. Each stands before the library's own, by the linker's
+   --wrap; -DWRONG_ and its name chooses it. */
+#include "clomaverift.h"
+
+/* Declares a wrong entry and the library's own as the header has it. */
+#define WRONG(entry) __typeof__(entry) __wrap_##entry, __real_##entry
+
+#ifdef WRONG_cmv_pes_contents_pts_dts
+WRONG(cmv_pes_contents_pts_dts);
+
+/* An answer that differs: where a PTS and a DTS both lack a marker, the bit that is told for the second. */
+uint32_t __wrap_cmv_pes_contents_pts_dts(const uint8_t *buf, size_t buf_len, uint64_t *kind, uint64_t *ptsnumber, uint64_t *pts,
+    uint64_t *dtsnumber, uint64_t *dts) {
+    uint32_t word = __real_cmv_pes_contents_pts_dts(buf, buf_len, kind, ptsnumber, pts, dtsnumber, dts);
+    if (word == 0 && *kind == 2 && *ptsnumber == 12 && *dtsnumber == 12)
+        *dts += 1;
+    return word;
+}
+#endif
+
+#ifdef WRONG_cmv_machine_run
+WRONG(cmv_machine_run);
+
+/* A lent byte that changes on a refusal: where an end and a begin, two entries, do not fit, the log's next byte. */
+uint32_t __wrap_cmv_machine_run(uint8_t *phase, uint8_t *last, uint32_t *taken, size_t *place, const uint8_t *bytes, size_t bytes_len,
+    uint8_t *log, size_t log_len) {
+    uint32_t word = __real_cmv_machine_run(phase, last, taken, place, bytes, bytes_len, log, log_len);
+    if (word == 15 && *phase == 1 && log_len - *place >= 8)
+        log[*place] ^= 1;
+    return word;
+}
+#endif
+
+#ifdef WRONG_cmv_gather
+WRONG(cmv_gather);
+
+/* A crash: a continuation that fills the store to its last byte, behind bytes that lie in the packet. */
+uint32_t __wrap_cmv_gather(uint8_t *opened, size_t *count, uint8_t *lies, const uint8_t *packet, size_t packet_len, uint8_t kind,
+    uint8_t place, uint8_t length, uint8_t *store, size_t store_len) {
+    uint8_t lay = *lies;
+    uint32_t word = __real_cmv_gather(opened, count, lies, packet, packet_len, kind, place, length, store, store_len);
+    if (word == 0 && kind == 3 && lay != 255 && length > 0 && *count == store_len)
+        *(volatile uint8_t *)1 = 0;
+    return word;
+}
+#endif
+
+#ifdef WRONG_cmv_write
+WRONG(cmv_write);
+
+/* A written byte that differs: of a unit with a CRC whose last packet lacks one byte, the length of the adaptation field. */
+uint32_t __wrap_cmv_write(uint16_t pid, uint8_t counter, uint8_t id, uint8_t bounded, uint8_t priority, uint8_t alignment,
+    uint8_t copyright, uint8_t original, uint8_t times, uint64_t pts, uint64_t dts, uint8_t escr_there, uint64_t escr_base,
+    uint16_t escr_extension, uint8_t rate_there, uint32_t rate, uint8_t trick_there, uint8_t trick, uint8_t copy_there, uint8_t copy,
+    uint8_t crc_there, uint16_t crc, const uint8_t *payload, size_t payload_len, uint8_t *out, size_t out_len, uint64_t *count) {
+    uint32_t word = __real_cmv_write(pid, counter, id, bounded, priority, alignment, copyright, original, times, pts, dts, escr_there,
+        escr_base, escr_extension, rate_there, rate, trick_there, trick, copy_there, copy, crc_there, crc, payload, payload_len, out,
+        out_len, count);
+    if (word == 0 && crc_there) {
+        uint8_t *last = out + 188 * (*count - 1);
+        if ((last[3] & 0x20) && last[4] == 0)
+            last[4] = 1;
+    }
+    return word;
+}
+#endif
