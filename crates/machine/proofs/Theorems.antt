@@ -157,6 +157,18 @@ fresh-one IgnoreRest = omega arith
 pub start-once : (i : ℕ) (s : State) (ps : List (List ℕ)) → startStreams (run i s ps) ≤ 1
 start-once i s ps = le-trans (starts-fresh i s ps) (fresh-one (s .phase))
 
+-- a break loses it: neither the packet that breaks nor any after it gives StartStream
+break-ignores : (i : ℕ) (s : State) (p : List ℕ) (ps : List (List ℕ)) → continuous (s .last) p ≡ false
+    → run i s (p ∷ ps) ≡ run i (state IgnoreRest (s .last)) (p ∷ ps)
+unfolding run eventsOf next phaseAfter
+break-ignores i s p ps h = rw h
+
+pub break-loses-start : (i : ℕ) (s : State) (p : List ℕ) (ps : List (List ℕ)) → continuous (s .last) p ≡ false
+    → startStreams (run i s (p ∷ ps)) ≡ 0
+break-loses-start i s p ps h =
+    let e = break-ignores i s p ps h in
+    omega (arith, ap startStreams e, starts-fresh i (state IgnoreRest (s .last)) (p ∷ ps))
+
 -- ---- a run that is not refused leaves exactly the packets' entries
 
 not-stopped : (m : Machine) (p l : List ℕ) (x y : Ran) (b : Bool) → eqb (numberOf m p l) 0 ≡ b → y .answer .number ≡ numberOf m p l → pick b x y .answer .number ≡ 0 → b ≡ true
