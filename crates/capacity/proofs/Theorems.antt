@@ -21,8 +21,8 @@ use Rattle.machine.specs.declared.Phase.the-variants.{Begin}
 use Rattle.machine.specs.declared.Last.the-variants.{Nothing}
 use Rattle.machine.specs.declared.Machine.{Machine}
 use Rattle.machine.specs.Events.{State, state, opened, run}
-use Rattle.machine.specs.Step.{stateOf}
-use Rattle.machine.specs.Run.{Ran, runOf, Sound, shifted}
+use Rattle.machine.specs.Step.{stateOf, Stands}
+use Rattle.machine.specs.Run.{Ran, runOf, shifted}
 use Rattle.machine.specs.Run.{packetsOf as packetsIn}
 use Rattle.machine.proofs.Theorems.{run-taken, run-written, run-reads-back, run-shift}
 use Rattle.gather.specs.Units.{Standing, gatherAll, answers, readAt, unitBytes, lastOf, Good, Taken, Open}
@@ -171,7 +171,7 @@ module _ (r : Route) (u : Unit) (payload out : List ℕ) (h : writeOf r u payloa
 -- THE OUTPUT OF `write`, TAKEN BY `run` with room in index and log, LEAVES EXACTLY THE UNIT'S EVENTS IN THE LOG
 pub logged : (r : Route) (u : Unit) (payload out : List ℕ) (m : Machine) (log : List ℕ)
     → Permitted r u (length payload) → writeOf r u payload out .number ≡ done
-    → Ready r (stateOf m) → Sound m log → m .taken + countOf u (length payload) ≤ 4_294_967_295
+    → Ready r (stateOf m) → Stands m log → m .taken + countOf u (length payload) ≤ 4_294_967_295
     → m .place + 8 * length (eventsLogged u (length payload) m) ≤ length log
     → let output = take (188 * countOf u (length payload)) (outputOf r u payload out) in
     Logged m log (runOf m (packetsIn output) log) (countOf u (length payload)) (eventsLogged u (length payload) m)

@@ -27,8 +27,8 @@ use Rattle.machine.specs.declared.Stepped.{Stepped}
 use Rattle.machine.specs.declared.Verdict.{Verdict}
 use Rattle.machine.specs.declared.Verdict.the-variants.{Done, WrongLength, NoSync, OutOfRange, IndexFull, LogFull}
 use Rattle.machine.specs.Events.{State, state, startFlag, headAccepted, continuous, broken, settled, opened, begun, continued, rest, eventsOf, phaseAfter, next, run}
-use Rattle.machine.specs.Step.{stateOf, eventsAt, numberOf, advanced, other, wrongLast, Outcome, verdictNumber, given, stepOf, logOf}
-use Rattle.machine.specs.Run.{Ran, runOf, IsPacket, Sound, shifted, startStreams, startFlags}
+use Rattle.machine.specs.Step.{stateOf, eventsAt, numberOf, advanced, other, wrongLast, Outcome, verdictNumber, given, stepOf, logOf, Stands}
+use Rattle.machine.specs.Run.{Ran, runOf, IsPacket, shifted, startStreams, startFlags}
 use Rattle.machine.proofs.Laws.{payload-below, no-refusal}
 
 -- ---- one answer only
@@ -262,7 +262,7 @@ counter-below : (p : List ℕ) → counterField p ≤ 15
 unfolding counterField
 counter-below p = omega (arith, field-below p 28 4)
 
-pub run-taken : (ps : List (List ℕ)) (m : Machine) (l : List ℕ) → Sound m l → All IsPacket ps → m .taken + length ps ≤ 4_294_967_295
+pub run-taken : (ps : List (List ℕ)) (m : Machine) (l : List ℕ) → Stands m l → All IsPacket ps → m .taken + length ps ≤ 4_294_967_295
     → m .place + 8 * length (run (m .taken) (stateOf m) ps) ≤ length l
     → (runOf m ps l .answer .number ≡ 0)
     × (runOf m ps l .answer .machine .taken ≡ m .taken + length ps)
@@ -273,16 +273,12 @@ run-taken (p ∷ ps) m l s w t r =
     let es = eventsAt m p in
     let n = length-append es (run (suc (m .taken)) (next (stateOf m) p) ps) in
     let z : numberOf m p l ≡ 0
-    = no-refusal m p l (w .0 .0) (w .0 .1) (s .last-good) (s .place-fits) (s .place-whole) (λ e. omega arith) es refl
-    (omega (arith, s .place-fits)) in
+    = no-refusal m p l (w .0 .0) (w .0 .1) (s .0) (s .1) (s .2) (λ e. omega arith) es refl
+    (omega (arith, s .1)) in
     let l′ = sets l (m .place) (entriesBytes es) in
     let k = length-sets l (m .place) (entriesBytes es) in
-    let s′ : Sound (advanced m p) l′
-    = record {
-      last-good = le-ltb 15 (counterField p) (counter-below p);
-      place-fits = omega arith;
-      place-whole = omega (arith, s .place-whole);
-    } in
+    let s′ : Stands (advanced m p) l′
+    = (le-ltb 15 (counterField p) (counter-below p), omega arith, omega (arith, s .2)) in
     let ih = run-taken ps (advanced m p) l′ s′ (w .1) (omega arith) (omega arith) in
     simp z (ih .0, omega (arith, ih .1), omega (arith, ih .2))
 
@@ -293,14 +289,14 @@ proper-run (p ∷ ps) i s h =
     all-append (eventsOf i s p) (run (suc i) (next s p) ps)
     (proper-events i p (omega arith) s) (proper-run ps (suc i) (next s p) (omega arith))
 
-pub run-reads-back : (ps : List (List ℕ)) (m : Machine) (l : List ℕ) → Sound m l → All IsPacket ps → m .taken + length ps ≤ 4_294_967_295
+pub run-reads-back : (ps : List (List ℕ)) (m : Machine) (l : List ℕ) → Stands m l → All IsPacket ps → m .taken + length ps ≤ 4_294_967_295
     → m .place + 8 * length (run (m .taken) (stateOf m) ps) ≤ length l
     → (k : ℕ) → k < length (run (m .taken) (stateOf m) ps)
     → readEntry (runOf m ps l .log) (m .place + 8 * k) ≡ answer 0 (eventValues (nth (run (m .taken) (stateOf m) ps) k))
 run-reads-back ps m l s w t r k j =
     let es = run (m .taken) (stateOf m) ps in
     rw (run-written m ps l (run-taken ps m l s w t r .0))
-    (reads-back es l (m .place) k (s .place-whole) r j (all-nth es k (proper-run ps (m .taken) (stateOf m) (omega arith)) j))
+    (reads-back es l (m .place) k (s .2) r j (all-nth es k (proper-run ps (m .taken) (stateOf m) (omega arith)) j))
 
 -- ---- the index of the first packet shifts every event's, and nothing else
 
