@@ -18,18 +18,9 @@ use Rattle.packet.specs.Packet.{pidField, counterField, adaptationFlag, payload
 use Rattle.packet.proofs.Laws.{sound-is}
 use Rattle.machine.specs.Events.{startFlag}
 use Rattle.writer.specs.Packets.{packetTable, stuffing, carrier}
+use Rattle.writer.proofs.Laws.{stuffing-length}
 use Rattle.machine.specs.Run.{IsPacket}
 use Rattle.capacity.proofs.Rows.{RowIn, RowFits, row-front}
-
--- the adaptation field and the payload are 184 bytes
-stuffing-length : (r : ℕ) → r ≤ 184 → length (stuffing r) + r ≡ 184
-unfolding stuffing
-stuffing-length r h = go (ltb r 184) (ltb r 183) refl refl
-  where
-    go : (a b : Bool) → ltb r 184 ≡ a → ltb r 183 ≡ b → length (pick a ((183 - r) ∷ pick b (0 ∷ replicate (182 - r) 0xFF) []) []) + r ≡ 184
-    go true true e f = omega (arith, ltb-true r 183 f, length-replicate {A = ℕ} (182 - r) 0xFF)
-    go true false e f = omega (arith, ltb-true r 184 e, ltb-false r 183 f)
-    go false b e f = omega (arith, ltb-false r 184 e)
 
 stuffing-first : (r : ℕ) (xs : List ℕ) → r < 184 → getD (stuffing r ++ xs) 0 0 ≡ 183 - r
 unfolding stuffing

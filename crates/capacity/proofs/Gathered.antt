@@ -17,7 +17,7 @@ use Rattle.writer.specs.declared.Unit.{Unit}
 use Rattle.writer.specs.Unit.{countOf}
 use Rattle.writer.specs.Packets.{packetsOf}
 use Rattle.capacity.specs.Demand.{continuesOf}
-use Rattle.capacity.proofs.Written.{count-of-packets}
+use Rattle.capacity.proofs.Written.{written-count}
 
 pub continues-kind : (i k m : ℕ) → All (Kind 3) (continuesOf i k m)
 unfolding continuesOf
@@ -50,4 +50,4 @@ module _ (ps : List (List ℕ)) (all : All IsPacket ps) (t : Standing) (ok : Goo
 
 pub long-enough : (r : Route) (u : Unit) (payload : List ℕ) → 1 + (countOf u (length payload) - 1) ≤ length (packetsOf r u payload)
 unfolding countOf
-long-enough r u payload = omega (arith, count-of-packets r u payload)
+long-enough r u payload = omega (arith, written-count r u payload)

@@ -27,6 +27,7 @@ use Rattle.writer.specs.declared.Escr.{Escr}
 use Rattle.writer.specs.declared.Unit.{Unit}
 use Rattle.writer.specs.Unit.{Field, absent, holds, rateField, byteField, crcField, timesFlags, escrFlag, fieldFlag, timesBytes, dataOf, statedLength}
 use Rattle.writer.specs.Packets.{headTable, timesImage, escrTable, escrImage, rateTable, trickTable, copyTable, crcTable, image, fieldsImage, headerImage}
+use Rattle.writer.proofs.Laws.{times-length, escr-length, image-length, header-length}
 use Rattle.capacity.specs.Reads.{givenTimes, givenEscr, givenField, givenBit, contents, HasFields}
 use Rattle.capacity.specs.Demand.{atMost}
 use Rattle.capacity.proofs.Rows.{RowIn, RowFits, row-front}
@@ -42,23 +43,7 @@ skip a b c at len e l = sym (drop-drop len at c) ∙ (ap (drop len) e ∙ drop-a
 given : {v w : ℕ} → v ≡ w → answer 0 (v ∷ []) ≡ answer 0 (w ∷ [])
 given e = ap (λ (v : ℕ). answer 0 (v ∷ [])) e
 
--- ---- how long each field is
-
-times-length : (t : Times) → length (timesImage t) ≡ timesBytes t
-unfolding timesImage
-times-length Untimed = refl
-times-length (Pts p) = stamp-length 2 p
-times-length (Both p d) = omega (arith, length-append (stampBytes 3 p) (stampBytes 1 d), stamp-length 3 p, stamp-length 1 d)
-
-escr-length : (e : Escr) → length (escrImage e) ≡ 6 * escrFlag e
-unfolding escrImage
-escr-length Escr.Absent = refl
-escr-length (Escr.Present b e) = length-bytesOf 6 (joined (escrTable b e))
-
-image-length : (k : ℕ) (t : ℕ → List Part) (f : Field) → length (image k t f) ≡ k * fieldFlag f
-unfolding image
-image-length k t absent = omega arith
-image-length k t (holds v) = omega (arith, length-bytesOf k (joined (t v)))
+-- ---- how long the fields are at most
 
 flag-small : (f : Field) → fieldFlag f ≤ 1
 flag-small absent = omega arith
@@ -85,25 +70,6 @@ data-small u =
       flag-small (byteField (u .copy)),
       flag-small (crcField (u .crc)),
     )
-
-fields-length : (u : Unit) → length (fieldsImage u) ≡ dataOf u
-unfolding fieldsImage dataOf
-fields-length u =
-    simp (
-      length-append,
-      times-length (u .times),
-      escr-length (u .escr),
-      image-length 3 rateTable (rateField (u .rate)),
-      image-length 1 trickTable (byteField (u .trick)),
-      image-length 1 copyTable (byteField (u .copy)),
-      image-length 2 crcTable (crcField (u .crc)),
-    ) (omega arith)
-
-pub header-length : (u : Unit) (n : ℕ) → length (headerImage u n) ≡ 9 + dataOf u
-unfolding headerImage
-header-length u n =
-    let nine = bytesOf 9 (joined (headTable u n)) in
-    omega (arith, length-append nine (fieldsImage u), length-bytesOf 9 (joined (headTable u n)), fields-length u)
 
 -- ---- each field
 

@@ -38,7 +38,7 @@ use Rattle.capacity.specs.Accepted.{PacketsRead, HeaderRead}
 use Rattle.capacity.specs.Demand.{Permitted, Ready, endOf, continuesOf, eventsWritten, Strict, Logged, eventsLogged}
 use Rattle.capacity.proofs.Permits.{route-fits, unit-fits}
 use Rattle.capacity.proofs.HeaderBack.{length-back}
-use Rattle.capacity.proofs.Written.{count-of-packets, all-packets, stream-length, stream-takes, unit-run, whole, first-is, unit-gives, unit-segments, unit-pids, unit-counters}
+use Rattle.capacity.proofs.Written.{written-count, all-packets, stream-length, stream-takes, unit-run, whole, first-is, unit-gives, unit-segments, unit-pids, unit-counters}
 use Rattle.capacity.proofs.Accepted.{read-carried, header-read}
 use Rattle.capacity.proofs.Slices.{flat-length, packets-flat}
 use Rattle.capacity.proofs.Gathered.{continues-kind, continues-inside, part-inside, opened-taken, long-enough}
@@ -53,10 +53,7 @@ least u payload s ps p d =
     let w = segment-within 0 s ps (d .segment-of) (d .one) in
     omega (arith, w .0, least-segment ps u payload (d .segment-of) p (w .1) (d .gives))
 
--- ---- 2. the writer's packets deliver the unit as it is asked to, and are its count
-
-pub written-count : (r : Route) (u : Unit) (payload : List ℕ) → length (packetsOf r u payload) ≡ countOf u (length payload)
-written-count = count-of-packets
+-- ---- 2. the writer's packets deliver the unit as it is asked to, and are its count (`written-count`, in Written.antt)
 
 pub written : (r : Route) (u : Unit) (payload : List ℕ) (s : State) → Permitted r u (length payload) → Ready r s
     → Strict r u payload s (packetsOf r u payload)

@@ -17,17 +17,18 @@ use Rattle.writer.specs.declared.Route.{Route}
 use Rattle.writer.specs.declared.Unit.{Unit}
 use Rattle.writer.specs.Unit.{dataOf, countOf}
 use Rattle.writer.specs.Packets.{headerImage, carried, packetsOf}
+use Rattle.writer.proofs.Laws.{header-length}
 use Rattle.machine.specs.Run.{IsPacket}
 use Rattle.gather.specs.Units.{bytesAt, bytesAtAll}
 use Rattle.capacity.specs.Reads.{Segment, segment, segments, Gives}
 use Rattle.capacity.specs.Demand.{Permitted, Ready, endOf, continuesOf, eventsWritten, Counters}
 use Rattle.capacity.proofs.Permits.{RouteFits, UnitFits, route-fits, unit-fits}
-use Rattle.capacity.proofs.HeaderBack.{header-length, data-small, headed-back, fields-back, payload-after}
+use Rattle.capacity.proofs.HeaderBack.{data-small, headed-back, fields-back, payload-after}
 use Rattle.capacity.proofs.Carried.{Takes, one-segment, made-packets, made-pids, made-counters, carried-length, run-carried, first-bytes, rest-bytes}
 
-pub count-of-packets : (r : Route) (u : Unit) (payload : List ℕ) → length (packetsOf r u payload) ≡ countOf u (length payload)
+pub written-count : (r : Route) (u : Unit) (payload : List ℕ) → length (packetsOf r u payload) ≡ countOf u (length payload)
 unfolding packetsOf
-count-of-packets r u payload =
+written-count r u payload =
     carried-length (countOf u (length payload)) 1 (r .pid) (r .counter) (headerImage u (length payload) ++ payload)
 
 pub all-packets : (r : Route) (u : Unit) (payload : List ℕ) → All IsPacket (packetsOf r u payload)
