@@ -1,9 +1,11 @@
-//! Writes the units of a recording anew with the library's writer, after its first tables, to standard output: what other programs read
-//! of the two has to agree. Units that the writer does not take (more than 65,536 bytes, a stream id with a bare payload) are left out.
+//! Writes the units of a recording anew with the library's writer, every field of their headers as it was, after the recording's first
+//! tables, to standard output: what other programs read of the two has to agree. Units that the writer does not take (more than 65,536
+//! bytes, a stream id with a bare payload) are left out.
 //!
 //!     cargo run --example rewrite FILE
 
-use clomaverift::{Demux, Found, FoundUnit, Packet, Times, Unit};
+use clomaverift::{Copyright, DataAlignment, OriginalOrCopy};
+use clomaverift::{Demux, Found, FoundUnit, Packet, PesContents, PesHeader, PesParsedContents, Times, Unit};
 use std::collections::{BTreeMap, BTreeSet};
 use std::error::Error;
 use std::io::Write;
@@ -19,6 +21,31 @@ fn times_of(found: &FoundUnit<'_>) -> Times {
     }
 }
 
+/// What follows the head of the unit that begins with this packet of the recording.
+fn contents_at(recording: &[u8], index: u64) -> Option<PesParsedContents<'_>> {
+    let bytes = recording.chunks_exact(Packet::SIZE).nth(index.try_into().ok()?)?;
+    match PesHeader::from_bytes(Packet::try_new(bytes).ok()?.payload()?).ok()?.contents() {
+        PesContents::Parsed(contents) => contents.ok(),
+        PesContents::Payload(_) => None,
+    }
+}
+
+/// The unit with these fields of its header.
+fn with_fields(unit: Unit, contents: &PesParsedContents<'_>) -> Unit {
+    Unit {
+        priority: contents.pes_priority() == 1,
+        alignment: contents.data_alignment_indicator() == DataAlignment::Aligned,
+        copyright: contents.copyright() == Copyright::Undefined, // the bit is 1
+        original: contents.original_or_copy() == OriginalOrCopy::Original,
+        escr: contents.escr().ok().map(|clock| (clock.base(), clock.extension())),
+        es_rate: contents.es_rate().ok().map(u32::from),
+        trick_mode: contents.raw_trick_mode().ok(),
+        copy_info: contents.additional_copy_info().ok(),
+        crc: contents.previous_pes_packet_crc().ok(),
+        ..unit
+    }
+}
+
 /// The units in their order, each PID with counters of its own.
 #[derive(Default)]
 struct Writer {
@@ -28,7 +55,7 @@ struct Writer {
 }
 
 impl Writer {
-    fn unit(&mut self, found: &FoundUnit<'_>) {
+    fn unit(&mut self, found: &FoundUnit<'_>, contents: Option<PesParsedContents<'_>>) {
         let pid = u16::from(found.pid);
         let counter = self.counters.entry(pid).or_default();
         let unit = Unit {
@@ -37,6 +64,7 @@ impl Writer {
             times: times_of(found),
             ..Unit::new(pid, found.stream_id.number())
         };
+        let unit = contents.map_or(unit, |contents| with_fields(unit, &contents));
         match unit.packets(found.payload) {
             Ok(packets) => {
                 *counter = (*counter + (packets.len() / Packet::SIZE % 16) as u8) % 16;
@@ -65,7 +93,7 @@ fn rewrite(file: &str) -> Result<(), Box<dyn Error>> {
     let mut writer = Writer::default();
     let mut tell = |found: Found<'_>| {
         if let Found::Unit(unit) = found {
-            writer.unit(&unit);
+            writer.unit(&unit, contents_at(&recording, unit.index));
         }
     };
     demux.push(&recording, &mut tell);
@@ -74,6 +102,7 @@ fn rewrite(file: &str) -> Result<(), Box<dyn Error>> {
     let mut out = std::io::stdout().lock();
     out.write_all(&tables(&recording, &with_units))?;
     out.write_all(&writer.out)?;
+    out.flush()?;
     eprintln!("{} units left out", writer.left_out);
     Ok(())
 }
