@@ -4,7 +4,7 @@ use mathlib.Core.Path.{_≡_, refl, sym, ap, _∙_}
 use mathlib.Core.Bool.{Bool, true, false}
 use mathlib.Core.List.{List, [], _∷_}
 use mathlib.Core.Logic.{⊎-elim}
-use Prim.Native.Nat.{ℕ, _+_, _-_, _*_, _/_, _%_, _^_, _≤_, _<_}
+use Prim.Native.Nat.{ℕ, _+_, _-_, _*_, _/_, _%_, _≤_, _<_}
 use native.Mathlib.Nat.{add-zero}
 use native.Mathlib.Omega.{arith}
 use lib.ListN.{length, getD, take, drop, length-drop, List·getD-eq-default}
@@ -21,7 +21,9 @@ use Rattle.timestamp.specs.Stamp.{readStamp}
 use Rattle.control.specs.Clock.{readClock}
 use Rattle.adaptation.specs.declared.PartRead.{PartRead}
 use Rattle.adaptation.proofs.PartRead.{the-type}
-use Rattle.adaptation.specs.Adaptation.{givenPart, optional, readFlag, opcrBit, spliceBit, privateBit, extensionBit, measuredEnd, measured, clockAt, opcrAt, spliceAt, privateAt, extensionAt, readOpcr, readSpliceCountdown, readPrivateData, readExtension}
+use Rattle.adaptation.specs.Adaptation.{givenPart, optional, readFlag, opcrBit, spliceBit, privateBit, extensionBit, measuredEnd}
+use Rattle.adaptation.specs.Adaptation.{measured, clockAt, opcrAt, spliceAt, privateAt, extensionAt, readOpcr, readSpliceCountdown}
+use Rattle.adaptation.specs.Adaptation.{readPrivateData, readExtension}
 use Rattle.adaptation.specs.Extension.{ltwBit, rateBit, seamlessBit, ltwAt, readLtw, readRate, readSplice, rateAt, seamlessAt, typed}
 
 -- ---- the flags that are always there

@@ -16,7 +16,8 @@ use Rattle.adaptation.specs.declared.PartRead.{PartRead}
 use Rattle.adaptation.specs.declared.extension.LtwRead.{LtwRead}
 use Rattle.adaptation.specs.declared.extension.RateRead.{RateRead}
 use Rattle.adaptation.specs.declared.extension.SpliceRead.{SpliceRead}
-use Rattle.adaptation.specs.Adaptation.{givenFlag, givenClock, givenByte, givenPart, privateBit, extensionBit, measured, measuredEnd, privateAt, extensionAt, readPrivateData, readExtension}
+use Rattle.adaptation.specs.Adaptation.{givenFlag, givenClock, givenByte, givenPart, privateBit, extensionBit, measured, measuredEnd}
+use Rattle.adaptation.specs.Adaptation.{privateAt, extensionAt, readPrivateData, readExtension}
 use Rattle.adaptation.specs.Extension.{givenLtw, givenRate, givenSplice}
 use Rattle.adaptation.proofs.Laws.{optional-within}
 

@@ -1,13 +1,12 @@
 -- The adaptation field, without its length byte (clause 2.4.3.4, the adaptation field table): a byte of flags, and then, each there
 -- where its flag is set, one after another:
 --   PCR 6 bytes, OPCR 6 bytes, splice_countdown 1 byte, private data (length byte, then data), extension (length byte, then data).
-use mathlib.Core.Bool.{Bool, true, false}
 use mathlib.Core.List.{List, [], _∷_}
 use Prim.Native.Nat.{ℕ, _+_, _*_}
 use lib.ListN.{length, getD, drop}
 use lib.Dec.{eqb, leb}
 use Rattle.bits.specs.Answer.{Answer, answer, pick, truth}
-use Rattle.bits.specs.Field.{bit, field, flag}
+use Rattle.bits.specs.Field.{bit, flag}
 use Rattle.bits.specs.Numbers.{done, wrongLength, fieldNotPresent, notEnoughData}
 use Rattle.control.specs.Clock.{clockBase, clockExtension, clockValues}
 use Rattle.adaptation.specs.declared.FlagRead.{FlagRead}

@@ -1,14 +1,13 @@
 -- The adaptation field extension, without its length byte (clause 2.4.3.4, the same table): a byte of flags, and then, each there
 -- where its flag is set, one after another:
 --   ltw_valid_flag 1 and ltw_offset 15; 2 reserved and piecewise_rate 22; Splice_type 4 and DTS_next_AU 33 with three markers.
-use mathlib.Core.Bool.{Bool, true, false}
 use mathlib.Core.List.{List, [], _∷_}
 use Prim.Native.Nat.{ℕ, _+_, _*_}
-use lib.ListN.{length, drop}
+use lib.ListN.{drop}
 use lib.Dec.{eqb}
 use Rattle.bits.specs.Answer.{Answer, answer, pick}
 use Rattle.bits.specs.Field.{bit, field, flag}
-use Rattle.bits.specs.Numbers.{done, wrongLength, fieldNotPresent, notEnoughData, markerBitNotSet}
+use Rattle.bits.specs.Numbers.{done, fieldNotPresent, notEnoughData, markerBitNotSet}
 use Rattle.timestamp.specs.Stamp.{readStamp}
 use Rattle.adaptation.specs.Adaptation.{optional}
 use Rattle.adaptation.specs.declared.extension.LtwRead.{LtwRead}

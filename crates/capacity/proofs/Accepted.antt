@@ -3,21 +3,18 @@
 use mathlib.Core.Path.{_≡_, refl, ap, ap₂, _∙_}
 use mathlib.Core.Bool.{Bool, true, false}
 use mathlib.Core.List.{List, [], _∷_, _++_}
-use Prim.Native.Nat.{ℕ, zero, suc, _+_, _-_, _%_, _^_, _≤_, _<_, min}
+use Prim.Native.Nat.{ℕ, zero, suc, _+_, _-_, _%_, _^_, _≤_, _<_}
 use native.Mathlib.Omega.{arith}
 use lib.ListN.{length, take, drop, getD, length-take, length-drop}
-use lib.Dec.{eqb, ltb}
+use lib.Dec.{eqb}
 use borrow.Author.Tests.{ne-eqb}
 use Rattle.bits.specs.Answer.{answer, pick, truth}
-use Rattle.bits.specs.Numbers.{done, fieldNotPresent}
+use Rattle.bits.specs.Numbers.{done}
 use Rattle.bits.proofs.Fields.{in-byte}
 use Rattle.control.specs.Control.{scrambling}
-use Rattle.packet.specs.Packet.{tried, readFlag, errorBit, startBit, priorityBit, readPid, readCounter, readAdaptation, readPayload, contentAt}
+use Rattle.packet.specs.Packet.{contentAt}
 use Rattle.packet.proofs.Laws.{sound-is}
 use Rattle.pes.specs.Stream.{streamId, streamValues}
-use Rattle.pes.specs.Head.{readStreamId, readLength, readContents}
-use Rattle.contents.specs.Contents.{readFixed, readExtension}
-use Rattle.contents.specs.Contents.{readPayload as readParsed}
 use Rattle.machine.specs.Events.{startFlag}
 use Rattle.writer.specs.declared.Unit.{Unit}
 use Rattle.writer.specs.Unit.{dataOf, statedLength}
@@ -25,7 +22,8 @@ use Rattle.writer.specs.Packets.{headerImage, carrier, carried}
 use Rattle.capacity.specs.Accepted.{PacketRead, PacketsRead, HeaderRead}
 use Rattle.capacity.proofs.Permits.{UnitFits}
 use Rattle.capacity.proofs.HeaderBack.{headed-back, id-back, length-back, accepted-back, fields-back, payload-is, rest-given}
-use Rattle.capacity.proofs.Carrier.{is-packet, rest-clear, start-back, pid-back, counter-back, content-back, field-back, payload-back}
+use Rattle.capacity.proofs.Carrier.{is-packet, rest-clear, start-back, pid-back, counter-back, content-back, field-back}
+use Rattle.capacity.proofs.Carrier.{payload-back}
 use Rattle.capacity.proofs.Carried.{Takes, takes-rest, chunk-length}
 
 -- ---- packets

@@ -24,7 +24,8 @@ use Rattle.machine.specs.Run.{IsPacket}
 use Rattle.gather.specs.Units.{bytesAt, bytesAtAll}
 use Rattle.capacity.specs.Reads.{upToBegin, segment, segments}
 use Rattle.capacity.specs.Demand.{Before, endOf, continuesOf, eventsWritten, Counters}
-use Rattle.capacity.proofs.Carrier.{start-back, pid-back, flag-back, counter-back, content-back, payload-back, rest-back, part-back, is-packet}
+use Rattle.capacity.proofs.Carrier.{start-back, pid-back, flag-back, counter-back, content-back, payload-back, rest-back, part-back}
+use Rattle.capacity.proofs.Carrier.{is-packet}
 
 -- ---- one packet
 

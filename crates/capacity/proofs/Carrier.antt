@@ -5,7 +5,7 @@ use mathlib.Core.Bool.{Bool, true, false}
 use mathlib.Core.List.{List, [], _∷_, _++_, append-assoc}
 use Prim.Native.Nat.{ℕ, _+_, _-_, _*_, _%_, _^_, _≤_, _<_}
 use native.Mathlib.Omega.{arith}
-use lib.ListN.{length, take, drop, getD, replicate, length-append, length-replicate}
+use lib.ListN.{length, take, drop, getD, length-append}
 use lib.Seq.{drop-at, take-all}
 use lib.Dec.{eqb, ltb}
 use borrow.Author.Tests.{lt-ltb, le-leb, eq-eqb, ltb-true, ltb-false}
@@ -13,14 +13,14 @@ use Rattle.bits.specs.Answer.{answer, pick, truth}
 use Rattle.bits.specs.Field.{bit, field}
 use Rattle.bits.specs.Pack.{Part, joined, bytesOf}
 use Rattle.bits.proofs.Fields.{field-one, field-right, byte-field, truth-bit}
-use Rattle.bits.proofs.Packs.{length-bytesOf}
-use Rattle.packet.specs.Packet.{pidField, counterField, adaptationFlag, payloadFlag, adaptationLength, adaptationThere, readAdaptation, contentAt, payloadThere}
+use Rattle.bits.proofs.Packs.{length-bytesOf, RowIn, RowFits, row-front}
+use Rattle.packet.specs.Packet.{pidField, counterField, adaptationFlag, payloadFlag, adaptationLength, adaptationThere, readAdaptation}
+use Rattle.packet.specs.Packet.{contentAt, payloadThere}
 use Rattle.packet.proofs.Laws.{sound-is}
 use Rattle.machine.specs.Events.{startFlag}
 use Rattle.writer.specs.Packets.{packetTable, stuffing, carrier}
 use Rattle.writer.proofs.Laws.{stuffing-length}
 use Rattle.machine.specs.Run.{IsPacket}
-use Rattle.capacity.proofs.Rows.{RowIn, RowFits, row-front}
 
 stuffing-first : (r : ℕ) (xs : List ℕ) → r < 184 → getD (stuffing r ++ xs) 0 0 ≡ 183 - r
 unfolding stuffing

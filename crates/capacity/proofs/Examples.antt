@@ -11,7 +11,8 @@ use Rattle.bits.specs.Field.{bit, field}
 use Rattle.pes.specs.Stream.{parsedId}
 use Rattle.pes.specs.Head.{headed, idOf}
 use Rattle.packet.specs.Packet.{payloadFlag, adaptationFlag, contentAt, payloadThere}
-use Rattle.contents.specs.Contents.{guarded, flagged, readPtsDts, dataLength, timesSize, escrAt, rateAt, trickAt, copyInfoAt, crcAt, fieldsEnd, payloadAt}
+use Rattle.contents.specs.Contents.{guarded, flagged, readPtsDts, dataLength, timesSize, escrAt, rateAt, trickAt, copyInfoAt, crcAt}
+use Rattle.contents.specs.Contents.{fieldsEnd, payloadAt}
 use Rattle.log.specs.declared.Event.{Event}
 use Rattle.log.specs.Entry.{event, beginPacket}
 use Rattle.machine.specs.declared.Phase.the-variants.{Begin}
@@ -28,7 +29,7 @@ use Rattle.writer.specs.declared.Crc.{Crc}
 use Rattle.writer.specs.declared.Unit.{Unit}
 use Rattle.writer.specs.Unit.{dataOf, statedLength, countOf}
 use Rattle.writer.specs.Writer.{routeTests, unitTests, sizeTests}
-use Rattle.gather.specs.Units.{bytesAt, bytesAtAll}
+use Rattle.gather.specs.Units.{bytesAt}
 use Rattle.capacity.specs.Reads.{upToBegin, segment, segments, HasFields, Delivers}
 use Rattle.capacity.specs.Demand.{Permitted}
 

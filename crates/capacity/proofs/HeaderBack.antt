@@ -10,14 +10,15 @@ use lib.Seq.{drop-at, drop-drop, take-all}
 use borrow.Author.Tests.{le-ltb, eq-eqb, ne-eqb}
 use Rattle.bits.specs.Answer.{Answer, answer, truth, partOf}
 use Rattle.bits.specs.Field.{bit, field}
-use Rattle.bits.specs.Pack.{Part, joined, bytesOf}
+use Rattle.bits.specs.Pack.{joined, bytesOf}
 use Rattle.bits.proofs.Fields.{field-one, field-split, field-left, field-drop, bit-left, bit-below, in-byte}
-use Rattle.bits.proofs.Packs.{length-bytesOf}
+use Rattle.bits.proofs.Packs.{length-bytesOf, RowIn, RowFits, row-front}
 use Rattle.timestamp.specs.Stamp.{readStamp, stampValue, stampBytes}
 use Rattle.timestamp.proofs.Theorems.{read-back, stamp-length}
 use Rattle.pes.specs.Stream.{parsedId}
 use Rattle.pes.specs.Head.{headed, idOf, packetLength}
-use Rattle.contents.specs.Contents.{dataLength, timesSize, escrAt, rateAt, trickAt, copyInfoAt, crcAt, fieldsEnd, payloadAt, readFixed, readPtsDts, escrBase, escrExtension, readEscr, rateOf, readEsRate, readCopyInfo, readCrc, readExtension}
+use Rattle.contents.specs.Contents.{dataLength, timesSize, escrAt, rateAt, trickAt, copyInfoAt, crcAt, fieldsEnd, payloadAt, readFixed}
+use Rattle.contents.specs.Contents.{readPtsDts, escrBase, escrExtension, readEscr, rateOf, readEsRate, readCopyInfo, readCrc, readExtension}
 use Rattle.contents.specs.Trick.{readRawTrick}
 use Rattle.contents.proofs.Laws.{Accepted, sound, field-off, field-on}
 use Rattle.gather.specs.Belongs.{belongs, ownBytes}
@@ -25,12 +26,13 @@ use Rattle.writer.specs.declared.Times.{Times}
 use Rattle.writer.specs.declared.Times.the-variants.{Untimed, Pts, Both}
 use Rattle.writer.specs.declared.Escr.{Escr}
 use Rattle.writer.specs.declared.Unit.{Unit}
-use Rattle.writer.specs.Unit.{Field, absent, holds, rateField, byteField, crcField, timesFlags, escrFlag, fieldFlag, timesBytes, dataOf, statedLength}
-use Rattle.writer.specs.Packets.{headTable, timesImage, escrTable, escrImage, rateTable, trickTable, copyTable, crcTable, image, fieldsImage, headerImage}
+use Rattle.writer.specs.Unit.{Field, absent, holds, rateField, byteField, crcField, timesFlags, escrFlag, fieldFlag, timesBytes, dataOf}
+use Rattle.writer.specs.Unit.{statedLength}
+use Rattle.writer.specs.Packets.{headTable, timesImage, escrTable, escrImage, rateTable, trickTable, copyTable, crcTable, image}
+use Rattle.writer.specs.Packets.{fieldsImage, headerImage}
 use Rattle.writer.proofs.Laws.{times-length, escr-length, image-length, header-length}
 use Rattle.capacity.specs.Reads.{givenTimes, givenEscr, givenField, givenBit, contents, HasFields}
 use Rattle.capacity.specs.Demand.{atMost}
-use Rattle.capacity.proofs.Rows.{RowIn, RowFits, row-front}
 use Rattle.capacity.proofs.Permits.{TimesFit, EscrFits, UnitFits}
 
 -- ---- lists

@@ -21,7 +21,8 @@ use Rattle.log.specs.declared.Event.{Event}
 use Rattle.log.specs.Entry.{beginPacket, continuePacket}
 use Rattle.machine.specs.declared.Phase.{Phase}
 use Rattle.machine.specs.declared.Phase.the-variants.{Begin, Started, IgnoreRest}
-use Rattle.machine.specs.Events.{State, startFlag, headAccepted, held, continuous, broken, settled, opened, begun, continued, eventsOf, next, run}
+use Rattle.machine.specs.Events.{State, startFlag, headAccepted, held, continuous, broken, settled, opened, begun, continued, eventsOf}
+use Rattle.machine.specs.Events.{next, run}
 use Rattle.gather.specs.Belongs.{eventBytes, belongs, ownBytes}
 use Rattle.writer.specs.declared.Times.{Times}
 use Rattle.writer.specs.declared.Times.the-variants.{Untimed, Pts, Both}
@@ -29,7 +30,8 @@ use Rattle.writer.specs.declared.Escr.{Escr}
 use Rattle.writer.specs.declared.Unit.{Unit}
 use Rattle.writer.specs.Unit.{Field, absent, holds, rateField, byteField, crcField, escrFlag, fieldFlag, timesBytes, dataOf, countOf}
 use Rattle.gather.specs.Units.{bytesAt, bytesAtAll}
-use Rattle.capacity.specs.Reads.{begins, continues, upToBegin, Segment, segment, segments, givenTimes, givenEscr, givenField, contents, HasFields, Gives}
+use Rattle.capacity.specs.Reads.{begins, continues, upToBegin, Segment, segment, segments, givenTimes, givenEscr, givenField}
+use Rattle.capacity.specs.Reads.{contents, HasFields, Gives}
 
 -- ---- a packet gives at most one part, of at most 184 bytes
 

@@ -1,4 +1,3 @@
-pub mod Rows
 pub mod Permits
 pub mod HeaderBack
 pub mod Carrier

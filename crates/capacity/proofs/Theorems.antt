@@ -8,21 +8,19 @@ use Prim.Native.Nat.{ℕ, _+_, _-_, _*_, _/_, _≤_, _<_, min}
 use native.Mathlib.Omega.{arith}
 use native.Mathlib.Nat.{add-zero}
 use lib.ListN.{length, take, drop}
-use lib.Seq.{take-at, drop-at, sets}
+use lib.Seq.{take-at, drop-at}
 use lib.Dec.{ltb}
 use borrow.Author.Tests.{eq-eqb, ltb-true, ltb-false, le-ltb}
 use Rattle.bits.specs.Answer.{Answer, answer, pick, All}
 use Rattle.bits.specs.Numbers.{done, noRoom}
 use Rattle.pes.specs.Stream.{parsedId}
-use Rattle.log.specs.declared.Event.{Event}
-use Rattle.log.specs.Entry.{beginPacket, eventValues, entriesBytes, readEntry}
-use Rattle.log.proofs.Theorems.{nth}
+use Rattle.log.specs.Entry.{beginPacket}
 use Rattle.machine.specs.declared.Phase.the-variants.{Begin}
 use Rattle.machine.specs.declared.Last.the-variants.{Nothing}
 use Rattle.machine.specs.declared.Machine.{Machine}
 use Rattle.machine.specs.Events.{State, state, opened, run}
 use Rattle.machine.specs.Step.{stateOf, Stands}
-use Rattle.machine.specs.Run.{Ran, runOf, shifted}
+use Rattle.machine.specs.Run.{runOf, shifted}
 use Rattle.machine.specs.Run.{packetsOf as packetsIn}
 use Rattle.machine.proofs.Theorems.{run-taken, run-written, run-reads-back, run-shift}
 use Rattle.gather.specs.Units.{Standing, gatherAll, answers, readAt, unitBytes, lastOf, Good, Taken, Open}
@@ -38,7 +36,8 @@ use Rattle.capacity.specs.Accepted.{PacketsRead, HeaderRead}
 use Rattle.capacity.specs.Demand.{Permitted, Ready, endOf, continuesOf, eventsWritten, Strict, Logged, eventsLogged}
 use Rattle.capacity.proofs.Permits.{route-fits, unit-fits}
 use Rattle.capacity.proofs.HeaderBack.{length-back}
-use Rattle.capacity.proofs.Written.{written-count, all-packets, stream-length, stream-takes, unit-run, whole, first-is, unit-gives, unit-segments, unit-pids, unit-counters}
+use Rattle.capacity.proofs.Written.{written-count, all-packets, stream-length, stream-takes, unit-run, whole, first-is, unit-gives}
+use Rattle.capacity.proofs.Written.{unit-segments, unit-pids, unit-counters}
 use Rattle.capacity.proofs.Accepted.{read-carried, header-read}
 use Rattle.capacity.proofs.Slices.{flat-length, packets-flat}
 use Rattle.capacity.proofs.Gathered.{continues-kind, continues-inside, part-inside, opened-taken, long-enough}

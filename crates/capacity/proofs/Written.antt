@@ -24,7 +24,8 @@ use Rattle.capacity.specs.Reads.{Segment, segment, segments, Gives}
 use Rattle.capacity.specs.Demand.{Permitted, Ready, endOf, continuesOf, eventsWritten, Counters}
 use Rattle.capacity.proofs.Permits.{RouteFits, UnitFits, route-fits, unit-fits}
 use Rattle.capacity.proofs.HeaderBack.{data-small, headed-back, fields-back, payload-after}
-use Rattle.capacity.proofs.Carried.{Takes, one-segment, made-packets, made-pids, made-counters, carried-length, run-carried, first-bytes, rest-bytes}
+use Rattle.capacity.proofs.Carried.{Takes, one-segment, made-packets, made-pids, made-counters, carried-length, run-carried}
+use Rattle.capacity.proofs.Carried.{first-bytes, rest-bytes}
 
 pub written-count : (r : Route) (u : Unit) (payload : List ℕ) → length (packetsOf r u payload) ≡ countOf u (length payload)
 unfolding packetsOf

@@ -1,6 +1,6 @@
 -- What every reader of packet and header gives of packets that the writer makes: nothing is set that the unit does not name.
 use mathlib.Core.Path.{_≡_}
-use mathlib.Core.Bool.{Bool, true, false}
+use mathlib.Core.Bool.{Bool, false}
 use mathlib.Core.List.{List, [], _∷_}
 use Prim.Native.Nat.{ℕ, _+_, _-_, _%_, _≤_, min}
 use lib.ListN.{length, getD}

@@ -2,9 +2,9 @@
 -- Assumes nothing.
 use mathlib.Core.Path.{_≡_, refl, sym, ap, ap₂, _∙_}
 use mathlib.Core.Bool.{Bool, true, false}
-use mathlib.Core.List.{List, [], _∷_, _++_}
-use Prim.Native.Nat.{ℕ, zero, suc, _+_, _-_, _*_, _/_, _%_, _^_, _≤_, _<_}
-use native.Mathlib.Nat.{add-zero, div-one}
+use mathlib.Core.List.{List, [], _∷_}
+use Prim.Native.Nat.{ℕ, suc, _+_, _-_, _*_, _/_, _%_, _^_, _≤_, _<_}
+use native.Mathlib.Nat.{div-one}
 use native.Mathlib.Omega.{arith}
 use mathlib.Core.Logic.{_⊎_, ⊎-elim}
 use types.Run.{OneOf}
@@ -22,9 +22,8 @@ use Rattle.bits.proofs.Tests.{limited-value, limited-refused}
 use Rattle.timestamp.specs.declared.TimestampRead.{TimestampRead}
 use Rattle.timestamp.specs.Stamp.{given, readStamp}
 use Rattle.timestamp.proofs.Laws.{stamp-long}
-use Rattle.control.specs.declared.ClockRef.{ClockRef}
 use Rattle.control.specs.declared.ClockMade.{ClockMade}
-use Rattle.control.specs.Clock.{clockValues, givenMade, makeClock}
+use Rattle.control.specs.Clock.{givenMade, makeClock}
 use Rattle.control.proofs.Laws.{made}
 use Rattle.contents.specs.declared.Refusal.{Refusal}
 use Rattle.contents.specs.declared.ContentsRead.{ContentsRead}
@@ -34,7 +33,9 @@ use Rattle.contents.specs.declared.EscrRead.{EscrRead}
 use Rattle.contents.specs.declared.PartRead.{PartRead}
 use Rattle.contents.proofs.PartRead.{the-type}
 use Rattle.contents.specs.Given.{refusal, givenContents, givenStamp, givenPtsDts, givenEscr, givenPart}
-use Rattle.contents.specs.Contents.{dataLength, timesSize, escrAt, rateAt, trickAt, copyInfoAt, crcAt, fieldsEnd, payloadAt, guarded, flagged, readContents, readPtsDts, escrBase, escrExtension, escrAnswer, rateOf, readEscr, readEsRate, readCopyInfo, readCrc, readExtension, readPayload, makeRate, rateBytes}
+use Rattle.contents.specs.Contents.{dataLength, timesSize, escrAt, rateAt, trickAt, copyInfoAt, crcAt, fieldsEnd, payloadAt, guarded}
+use Rattle.contents.specs.Contents.{flagged, readContents, readPtsDts, escrBase, escrExtension, escrAnswer, rateOf, readEscr}
+use Rattle.contents.specs.Contents.{readEsRate, readCopyInfo, readCrc, readExtension, readPayload, makeRate, rateBytes}
 use Rattle.contents.specs.Trick.{control, trickOf, trickByte, truncationBits, readTrick, readRawTrick}
 
 -- ---- where things stand

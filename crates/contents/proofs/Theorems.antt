@@ -1,7 +1,7 @@
 -- The crate's theorems that belong to no one function: one answer only, and where the original's sense of a field is the standard's.
 -- That both parts lie within the contents is in `Laws`, where the functions cite it.
 -- Assumes nothing.
-use mathlib.Core.Path.{_≡_, refl, sym, ap, ap₂, _∙_}
+use mathlib.Core.Path.{_≡_, refl, sym, ap, ap₂}
 use mathlib.Core.Bool.{Bool, true, false}
 use mathlib.Core.List.{List, [], _∷_}
 use mathlib.Core.Logic.{_↔_, _⊎_, inl, inr}
@@ -10,7 +10,7 @@ use native.Mathlib.Omega.{arith}
 use lib.ListN.{getD}
 use lib.Dec.{eqb, leb}
 use borrow.Author.Tests.{eqb-true}
-use Rattle.bits.specs.Answer.{Answer, answer, pick}
+use Rattle.bits.specs.Answer.{Answer, pick}
 use Rattle.bits.specs.Field.{bit, field}
 use Rattle.bits.proofs.Tests.{one-answer}
 use Rattle.contents.specs.declared.Refusal.{Refusal}
@@ -35,8 +35,10 @@ use Rattle.contents.specs.declared.FieldRead.{FieldRead}
 use Rattle.contents.specs.declared.CopyInfoRead.{CopyInfoRead}
 use Rattle.contents.specs.declared.CrcRead.{CrcRead}
 use Rattle.contents.specs.declared.PartRead.{PartRead}
-use Rattle.contents.specs.Given.{refusal, givenContents, givenByte, givenAlignment, copyrightBit, standardCopyright, givenCopyright, givenOriginal, givenStamp, givenPtsDts, givenEscr}
-use Rattle.contents.specs.Given.{givenRateMade, givenRateNumber, givenEsRate, truncation, trickValues, givenTrick, givenField, givenCopyInfo, givenCrc, givenPart}
+use Rattle.contents.specs.Given.{refusal, givenContents, givenByte, givenAlignment, copyrightBit, standardCopyright, givenCopyright}
+use Rattle.contents.specs.Given.{givenOriginal, givenStamp, givenPtsDts, givenEscr}
+use Rattle.contents.specs.Given.{givenRateMade, givenRateNumber, givenEsRate, truncation, trickValues, givenTrick, givenField}
+use Rattle.contents.specs.Given.{givenCopyInfo, givenCrc, givenPart}
 use Rattle.contents.specs.Trick.{control, trickOf, standardTrick}
 use Rattle.bits.proofs.Fields.{truth-bit}
 

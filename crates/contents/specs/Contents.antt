@@ -3,14 +3,14 @@
 --   PTS_DTS_flags 2, ESCR_flag 1, ES_rate_flag 1, DSM_trick_mode_flag 1, additional_copy_info_flag 1, PES_CRC_flag 1,
 --   PES_extension_flag 1, PES_header_data_length 8,
 -- then the flagged fields, one after another, stuffing, and the payload.
-use mathlib.Core.Bool.{Bool, true, false}
 use mathlib.Core.List.{List, [], _∷_, _++_}
 use Prim.Native.Nat.{ℕ, _+_, _-_, _*_, _^_}
 use lib.ListN.{length, getD, drop}
 use lib.Dec.{eqb, ltb}
-use Rattle.bits.specs.Answer.{Answer, answer, pick, truth, limited}
+use Rattle.bits.specs.Answer.{Answer, answer, pick, limited}
 use Rattle.bits.specs.Field.{bit, field, flag}
-use Rattle.bits.specs.Numbers.{done, shortContents, badCheckBits, headerPastBuffer, fieldsPastHeader, fieldNotPresent, ptsDtsFlagsInvalid, markerBitNotSet}
+use Rattle.bits.specs.Numbers.{done, shortContents, badCheckBits, headerPastBuffer, fieldsPastHeader, fieldNotPresent, ptsDtsFlagsInvalid}
+use Rattle.bits.specs.Numbers.{markerBitNotSet}
 use Rattle.timestamp.specs.Stamp.{readStamp}
 
 -- ---- where things stand

@@ -1,10 +1,10 @@
 -- The number and the values of each answer.
-use mathlib.Core.Bool.{Bool, true, false}
 use mathlib.Core.List.{List, [], _∷_, _++_}
 use Prim.Native.Nat.{ℕ}
 use lib.Dec.{eqb}
 use Rattle.bits.specs.Answer.{Answer, answer, pick, truth}
-use Rattle.bits.specs.Numbers.{done, shortContents, badCheckBits, headerPastBuffer, fieldsPastHeader, fieldNotPresent, ptsDtsFlagsInvalid, markerBitNotSet, outOfRange}
+use Rattle.bits.specs.Numbers.{done, shortContents, badCheckBits, headerPastBuffer, fieldsPastHeader, fieldNotPresent, ptsDtsFlagsInvalid}
+use Rattle.bits.specs.Numbers.{markerBitNotSet, outOfRange}
 use Rattle.control.specs.Clock.{clockValues}
 use Rattle.contents.specs.Contents.{inner}
 use Rattle.contents.specs.declared.Refusal.{Refusal}

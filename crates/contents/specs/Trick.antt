@@ -1,7 +1,6 @@
 -- The trick mode byte (clause 2.4.3.6, the PES packet table): trick_mode_control 3, then 5 bits by the control:
 --   000 fast forward and 011 fast reverse: field_id 2, intra_slice_refresh 1, frequency_truncation 2;
 --   001 slow motion and 100 slow reverse: rep_cntrl 5; 010 freeze frame: field_id 2, reserved 3; else reserved 5.
-use mathlib.Core.Bool.{Bool, true, false}
 use mathlib.Core.List.{List, [], _∷_}
 use Prim.Native.Nat.{ℕ}
 use lib.ListN.{drop}

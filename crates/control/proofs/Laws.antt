@@ -8,14 +8,16 @@ use native.Mathlib.Omega.{arith}
 use lib.ListN.{length, getD}
 use lib.Dec.{eqb, ltb}
 use borrow.Author.Tests.{lt-ltb, le-ltb, eq-eqb, ne-eqb}
-use Rattle.bits.specs.Answer.{Answer, answer, pick}
+use Rattle.bits.specs.Answer.{Answer, answer}
 use Rattle.bits.specs.Field.{bit, field}
 use Rattle.bits.proofs.Fields.{field-split, in-byte}
 use Rattle.bits.proofs.Tests.{limited-in, limited-out, limited-values, limited-value, limited-refused}
 use Rattle.control.specs.declared.ClockRef.{ClockRef}
 use Rattle.control.specs.declared.Scheme.{Scheme}
-use Rattle.control.specs.Clock.{clock, clockValues, clockBase, clockExtension, clockFits, readClock, makeClock, clockNumber, sameClock}
-use Rattle.control.specs.Control.{hasAdaptationField, hasPayload, scrambling, isScrambled, schemeOf, follows, makeCounter, counterOf, makePid, pidOf}
+use Rattle.control.specs.Clock.{clock, clockValues, clockBase, clockExtension, clockFits, readClock, makeClock, clockNumber}
+use Rattle.control.specs.Clock.{sameClock}
+use Rattle.control.specs.Control.{hasAdaptationField, hasPayload, scrambling, isScrambled, schemeOf, follows, makeCounter, counterOf}
+use Rattle.control.specs.Control.{makePid, pidOf}
 
 -- the fourth byte
 module _ (b : ℕ) where

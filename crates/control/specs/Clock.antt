@@ -1,6 +1,6 @@
 -- Clock references. A PCR is a base of 33 bits, 6 reserved bits and an extension of 9 bits (clause 2.4.3.4, the adaptation field
 -- table); its number counts 27 MHz: base * 300 + extension (clause 2.4.3.5).
-use mathlib.Core.Bool.{Bool, true, false}
+use mathlib.Core.Bool.{Bool, false}
 use mathlib.Core.List.{List, [], _∷_}
 use Prim.Native.Nat.{ℕ, _+_, _*_, _^_}
 use lib.ListN.{length}

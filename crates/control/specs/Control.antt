@@ -1,7 +1,7 @@
 -- The packet's fourth byte (clause 2.4.3.2, the transport packet table): transport_scrambling_control 2 bits,
 -- adaptation_field_control 2 bits, continuity_counter 4 bits; and the numbers of counters and PIDs.
 use mathlib.Core.Bool.{Bool, not}
-use mathlib.Core.List.{List, [], _∷_}
+use mathlib.Core.List.{[], _∷_}
 use Prim.Native.Nat.{ℕ, _+_, _%_, _^_}
 use lib.Dec.{eqb, ltb}
 use Rattle.bits.specs.Answer.{Answer, answer, pick, limited}

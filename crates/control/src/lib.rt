@@ -1,7 +1,8 @@
 // The small types of the original's packet.rs: the control bits of a packet's fourth byte, clock references, counters and PIDs.
 ghost use mathlib.Core.Path.{_≡_};
 ghost use Rattle.control.specs.Clock.{givenRead, givenMade, givenNumber, readClock, makeClock, clockNumber, sameClock};
-ghost use Rattle.control.specs.Control.{hasAdaptationField, hasPayload, isScrambled, schemeOf, follows, givenCounter, makeCounter, counterOf, givenPid, makePid, pidOf};
+ghost use Rattle.control.specs.Control.{hasAdaptationField, hasPayload, isScrambled, schemeOf, follows, givenCounter, makeCounter};
+ghost use Rattle.control.specs.Control.{counterOf, givenPid, makePid, pidOf};
 use bits::wide;
 
 // The adaptation_field_control bits; the other bits of the byte are kept and not looked at.

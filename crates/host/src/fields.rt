@@ -1,6 +1,7 @@
 // The adaptation field and its extension, each without its length byte.
 ghost use mathlib.Core.List.{[], _∷_};
-ghost use Rattle.adaptation.specs.Adaptation.{givenFlag, givenClock, givenPart, readFlag, readPcr, readOpcr, readSpliceCountdown, readPrivateData, readExtension};
+ghost use Rattle.adaptation.specs.Adaptation.{givenFlag, givenClock, givenPart, readFlag, readPcr, readOpcr, readSpliceCountdown};
+ghost use Rattle.adaptation.specs.Adaptation.{readPrivateData, readExtension};
 ghost use Rattle.adaptation.specs.Extension.{readLtw, readRate, readSplice};
 ghost use Rattle.host.specs.Told.{Told};
 use crate::clocks::tell_clock;
@@ -57,7 +58,8 @@ pub extern "C" fn cmv_adaptation_field_elementary_stream_priority_indicator(
 }
 
 fn tell_clock_read(r: ClockRead, base: &mut u64, extension: &mut u64) -> u32
-    ensures { λ w. ⌜ Told (givenClock r) w (now (base .entry) ∷ now (extension .entry) ∷ []) (now (base .exit) ∷ now (extension .exit) ∷ []) ⌝ }
+    ensures { λ w. ⌜ Told (givenClock r) w (now (base .entry) ∷ now (extension .entry) ∷ [])
+        (now (base .exit) ∷ now (extension .exit) ∷ []) ⌝ }
 {
     match r {
         ClockRead::Done(c) => tell_clock(c, base, extension),

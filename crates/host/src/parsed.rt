@@ -3,9 +3,11 @@ ghost use mathlib.Core.Path.{_≡_};
 ghost use mathlib.Core.List.{List, [], _∷_};
 ghost use Prim.Native.Nat.{ℕ};
 ghost use lib.ListN.{getD};
-ghost use Rattle.contents.specs.Contents.{readContents, readFixed, readPtsDts, readEscr, readEsRate, readCopyInfo, readCrc, readExtension, readPayload, makeRate, rateBytes};
+ghost use Rattle.contents.specs.Contents.{readContents, readFixed, readPtsDts, readEscr, readEsRate, readCopyInfo, readCrc, readExtension};
+ghost use Rattle.contents.specs.Contents.{readPayload, makeRate, rateBytes};
 ghost use Rattle.contents.specs.Trick.{readTrick, readRawTrick};
-ghost use Rattle.contents.specs.Given.{refusal, givenByte, alignment, copyrightBit, originality, givenStamp, truncation, trickValues, givenPart};
+ghost use Rattle.contents.specs.Given.{refusal, givenByte, alignment, copyrightBit, originality, givenStamp, truncation, trickValues};
+ghost use Rattle.contents.specs.Given.{givenPart};
 ghost use Rattle.host.specs.Told.{Told, filled};
 use crate::clocks::tell_clock;
 use crate::numbers::BAD_CHECK_BITS;
@@ -201,7 +203,8 @@ pub extern "C" fn cmv_pes_contents_pts_dts(
     dtsnumber: &mut u64,
     dts: &mut u64,
 ) -> u32
-    ensures { λ w. ⌜ Told (readPtsDts (now (buf .entry))) w (now (kind .entry) ∷ now (ptsnumber .entry) ∷ now (pts .entry) ∷ now (dtsnumber .entry) ∷ now (dts .entry) ∷ [])
+    ensures { λ w. ⌜ Told (readPtsDts (now (buf .entry))) w
+        (now (kind .entry) ∷ now (ptsnumber .entry) ∷ now (pts .entry) ∷ now (dtsnumber .entry) ∷ now (dts .entry) ∷ [])
         (now (kind .exit) ∷ now (ptsnumber .exit) ∷ now (pts .exit) ∷ now (dtsnumber .exit) ∷ now (dts .exit) ∷ []) ⌝ }
 {
     match contents::pts_dts(buf) {
@@ -317,7 +320,8 @@ pub extern "C" fn cmv_pes_contents_dsm_trick_mode(
     second: &mut u64,
     third: &mut u64,
 ) -> u32
-    ensures { λ w. ⌜ Told (readTrick (now (buf .entry))) w (now (kind .entry) ∷ now (first .entry) ∷ now (second .entry) ∷ now (third .entry) ∷ [])
+    ensures { λ w. ⌜ Told (readTrick (now (buf .entry))) w
+        (now (kind .entry) ∷ now (first .entry) ∷ now (second .entry) ∷ now (third .entry) ∷ [])
         (now (kind .exit) ∷ now (first .exit) ∷ now (second .exit) ∷ now (third .exit) ∷ []) ⌝ }
 {
     match contents::dsm_trick_mode(buf) {

@@ -3,14 +3,14 @@
 use mathlib.Core.Path.{_≡_, refl, sym, ap, _∙_}
 use mathlib.Core.Bool.{Bool, true, false}
 use mathlib.Core.List.{List, [], _∷_, _++_, map, map-append}
-use Prim.Native.Nat.{ℕ, zero, suc, _+_, _-_, _*_, _%_, _^_, _≤_, _<_}
+use Prim.Native.Nat.{ℕ, suc, _+_, _-_, _*_, _%_, _^_, _≤_, _<_}
 use native.Mathlib.Omega.{arith}
 use native.Mathlib.Nat.{le-trans}
 use lib.ListN.{length, getD, length-append}
 use lib.Dec.{eqb, ltb}
 use lib.Seq.{sets, length-sets}
 use borrow.Author.Tests.{eq-eqb, le-ltb, ltb-false, eqb-true}
-use Rattle.bits.specs.Answer.{Answer, answer, pick, All}
+use Rattle.bits.specs.Answer.{answer, pick, All}
 use Rattle.bits.proofs.Fields.{field-below}
 use Rattle.bits.proofs.Tests.{one-answer}
 use Rattle.packet.specs.Packet.{counterField, contentAt, payloadThere}
@@ -20,14 +20,14 @@ use Rattle.log.proofs.Laws.{sets-append, entries-append, length-entries}
 use Rattle.log.proofs.Theorems.{Proper, nth, all-append, all-nth, reads-back}
 use Rattle.machine.specs.declared.Phase.{Phase}
 use Rattle.machine.specs.declared.Phase.the-variants.{Begin, Started, IgnoreRest}
-use Rattle.machine.specs.declared.Last.{Last}
-use Rattle.machine.specs.declared.Last.the-variants.{Nothing, At}
 use Rattle.machine.specs.declared.Machine.{Machine}
 use Rattle.machine.specs.declared.Stepped.{Stepped}
 use Rattle.machine.specs.declared.Verdict.{Verdict}
 use Rattle.machine.specs.declared.Verdict.the-variants.{Done, WrongLength, NoSync, OutOfRange, IndexFull, LogFull}
-use Rattle.machine.specs.Events.{State, state, startFlag, headAccepted, continuous, broken, settled, opened, begun, continued, rest, eventsOf, phaseAfter, next, run}
-use Rattle.machine.specs.Step.{stateOf, eventsAt, numberOf, advanced, other, wrongLast, Outcome, verdictNumber, given, stepOf, logOf, Stands}
+use Rattle.machine.specs.Events.{State, state, startFlag, headAccepted, continuous, broken, settled, opened, begun, continued}
+use Rattle.machine.specs.Events.{eventsOf, phaseAfter, next, run}
+use Rattle.machine.specs.Step.{stateOf, eventsAt, numberOf, advanced, other, wrongLast, Outcome, verdictNumber, given, stepOf, logOf}
+use Rattle.machine.specs.Step.{Stands}
 use Rattle.machine.specs.Run.{Ran, runOf, IsPacket, shifted, startStreams, startFlags}
 use Rattle.machine.proofs.Laws.{payload-below, no-refusal}
 

@@ -3,7 +3,7 @@
 use mathlib.Core.Path.{_≡_, refl, sym, ap, _∙_}
 use mathlib.Core.Bool.{Bool, true, false}
 use mathlib.Core.List.{List, [], _∷_}
-use Prim.Native.Nat.{ℕ, _+_, _-_, _*_, _/_, _%_, _≤_, _<_}
+use Prim.Native.Nat.{ℕ, _+_, _-_, _/_, _%_, _≤_, _<_}
 use native.Mathlib.Omega.{arith}
 use lib.ListN.{length, getD}
 use lib.Dec.{eqb, leb, ltb}
@@ -11,13 +11,14 @@ use borrow.Author.Tests.{lt-ltb, le-ltb, le-leb, lt-leb, eq-eqb, ne-eqb, ltb-tru
 use mathlib.Core.Logic.{_⊎_, ⊎-elim}
 use types.Run.{OneOf}
 use denote.Enum.Declared.{tagOf}
-use Rattle.bits.specs.Answer.{Answer, answer, pick, truth, Within}
-use Rattle.bits.specs.Field.{bit, field, flag}
+use Rattle.bits.specs.Answer.{Answer, answer, pick, Within}
+use Rattle.bits.specs.Field.{bit, flag}
 use Rattle.bits.proofs.Fields.{flag-clear, flag-set, in-byte, field-split, byte-field}
 use Rattle.control.specs.Control.{counterOf, pidOf}
 use Rattle.packet.specs.declared.PartRead.{PartRead}
 use Rattle.packet.proofs.PartRead.{the-type}
-use Rattle.packet.specs.Packet.{givenPart, sound, pidField, counterField, adaptationFlag, payloadFlag, adaptationLength, adaptationThere, contentAt, payloadThere, readAdaptation, readPayload}
+use Rattle.packet.specs.Packet.{givenPart, sound, pidField, counterField, adaptationFlag, payloadFlag, adaptationLength}
+use Rattle.packet.specs.Packet.{adaptationThere, contentAt, payloadThere, readAdaptation, readPayload}
 
 -- ---- a slice that is no packet, and one that is
 

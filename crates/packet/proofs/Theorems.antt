@@ -2,11 +2,11 @@
 -- Assumes nothing.
 use mathlib.Core.Path.{_≡_, refl}
 use mathlib.Core.Bool.{true, false}
-use mathlib.Core.List.{List, [], _∷_}
+use mathlib.Core.List.{List}
 use Prim.Native.Nat.{ℕ}
 use lib.ListN.{getD}
 use lib.Dec.{eqb}
-use Rattle.bits.specs.Answer.{Answer, answer, pick}
+use Rattle.bits.specs.Answer.{Answer, pick}
 use Rattle.bits.specs.Field.{bit}
 use Rattle.bits.proofs.Tests.{one-answer}
 use Rattle.control.specs.Control.{hasAdaptationField, hasPayload}
@@ -17,7 +17,8 @@ use Rattle.packet.specs.declared.ScramblingRead.{ScramblingRead}
 use Rattle.packet.specs.declared.ControlRead.{ControlRead}
 use Rattle.packet.specs.declared.CounterRead.{CounterRead}
 use Rattle.packet.specs.declared.PartRead.{PartRead}
-use Rattle.packet.specs.Packet.{givenTried, givenFlag, givenPid, givenScrambling, givenControl, givenCounter, givenPart, adaptationFlag, payloadFlag}
+use Rattle.packet.specs.Packet.{givenTried, givenFlag, givenPid, givenScrambling, givenControl, givenCounter, givenPart}
+use Rattle.packet.specs.Packet.{adaptationFlag, payloadFlag}
 
 -- ---- one answer only: any two answers that meet a reader's promise are equal
 

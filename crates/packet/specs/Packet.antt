@@ -2,7 +2,7 @@
 --   sync_byte 8, transport_error_indicator 1, payload_unit_start_indicator 1, transport_priority 1, PID 13,
 --   transport_scrambling_control 2, adaptation_field_control 2, continuity_counter 4,
 --   then the adaptation field with its length byte, and the payload.
-use mathlib.Core.Bool.{Bool, true, false}
+use mathlib.Core.Bool.{Bool, false}
 use mathlib.Core.List.{List, [], _∷_}
 use Prim.Native.Nat.{ℕ, _+_, _-_}
 use lib.ListN.{length, getD}

@@ -1,12 +1,12 @@
 -- What the definitions of `specs/` come to on the bytes, in each case. The functions' proofs cite these, and so do callers'.
 -- Assumes nothing.
 use mathlib.Core.Path.{_≡_, refl, sym, ap, _∙_}
-use mathlib.Core.Bool.{Bool, true, false, not}
+use mathlib.Core.Bool.{Bool, true, false}
 use mathlib.Core.List.{List, [], _∷_}
-use Prim.Native.Nat.{ℕ, zero, suc, _+_, _-_, _*_, _%_, _≤_, _<_}
+use Prim.Native.Nat.{ℕ, _+_, _-_, _*_, _%_, _≤_, _<_}
 use native.Mathlib.Omega.{arith}
 use lib.ListN.{length, getD}
-use lib.Dec.{T, eqb, leb, ltb}
+use lib.Dec.{eqb, leb, ltb}
 use borrow.Author.Tests.{lt-ltb, le-ltb, le-leb, lt-leb, eq-eqb, ne-eqb, ltb-false}
 use types.Run.{OneOf, miss}
 use denote.Enum.Declared.{tagOf}
@@ -15,8 +15,11 @@ use Rattle.bits.specs.Field.{field}
 use Rattle.bits.proofs.Fields.{in-byte, field-split, byte-field}
 use Rattle.pes.specs.declared.StreamId.{StreamId}
 use Rattle.pes.proofs.StreamId.{the-type}
-use Rattle.pes.specs.declared.StreamId.the-variants.{ProgramStreamMap, PrivateStream1, PaddingStream, PrivateStream2, Audio, Video, EcmStream, EmmStream, DsmCc, Iso13522Stream}
-use Rattle.pes.specs.declared.StreamId.the-variants.{H2221TypeA, H2221TypeB, H2221TypeC, H2221TypeD, H2221TypeE, AncillaryStream, SlPacketizedStream, FlexMuxStream, MetadataStream, ExtendedStreamId, ReservedDataStream, ProgramStreamDirectory, Unknown}
+use Rattle.pes.specs.declared.StreamId.the-variants.{ProgramStreamMap, PrivateStream1, PaddingStream, PrivateStream2, Audio, Video}
+use Rattle.pes.specs.declared.StreamId.the-variants.{EcmStream, EmmStream, DsmCc, Iso13522Stream}
+use Rattle.pes.specs.declared.StreamId.the-variants.{H2221TypeA, H2221TypeB, H2221TypeC, H2221TypeD, H2221TypeE, AncillaryStream}
+use Rattle.pes.specs.declared.StreamId.the-variants.{SlPacketizedStream, FlexMuxStream, MetadataStream, ExtendedStreamId}
+use Rattle.pes.specs.declared.StreamId.the-variants.{ReservedDataStream, ProgramStreamDirectory, Unknown}
 use Rattle.pes.specs.Stream.{streamId, streamValues, isParsed, parsedId}
 use Rattle.pes.specs.declared.HeadRead.{HeadRead}
 use Rattle.pes.specs.Head.{givenHead, headed, readHead, readStreamId, readLength, readContents, idOf, packetLength}

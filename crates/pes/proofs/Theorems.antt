@@ -9,8 +9,11 @@ use lib.Dec.{eqb}
 use Rattle.bits.specs.Answer.{Answer, answer, pick, Within}
 use Rattle.bits.proofs.Tests.{one-answer}
 use Rattle.pes.specs.declared.StreamId.{StreamId}
-use Rattle.pes.specs.declared.StreamId.the-variants.{ProgramStreamMap, PrivateStream1, PaddingStream, PrivateStream2, Audio, Video, EcmStream, EmmStream, DsmCc, Iso13522Stream}
-use Rattle.pes.specs.declared.StreamId.the-variants.{H2221TypeA, H2221TypeB, H2221TypeC, H2221TypeD, H2221TypeE, AncillaryStream, SlPacketizedStream, FlexMuxStream, MetadataStream, ExtendedStreamId, ReservedDataStream, ProgramStreamDirectory, Unknown}
+use Rattle.pes.specs.declared.StreamId.the-variants.{ProgramStreamMap, PrivateStream1, PaddingStream, PrivateStream2, Audio, Video}
+use Rattle.pes.specs.declared.StreamId.the-variants.{EcmStream, EmmStream, DsmCc, Iso13522Stream}
+use Rattle.pes.specs.declared.StreamId.the-variants.{H2221TypeA, H2221TypeB, H2221TypeC, H2221TypeD, H2221TypeE, AncillaryStream}
+use Rattle.pes.specs.declared.StreamId.the-variants.{SlPacketizedStream, FlexMuxStream, MetadataStream, ExtendedStreamId}
+use Rattle.pes.specs.declared.StreamId.the-variants.{ReservedDataStream, ProgramStreamDirectory, Unknown}
 use Rattle.pes.specs.declared.HeadRead.{HeadRead}
 use Rattle.pes.specs.declared.StreamIdRead.{StreamIdRead}
 use Rattle.pes.specs.declared.LengthRead.{LengthRead}

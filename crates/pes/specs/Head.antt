@@ -1,8 +1,7 @@
 -- The head of a PES packet (clause 2.4.3.6, the PES packet table): packet_start_code_prefix 24, stream_id 8, PES_packet_length 16.
-use mathlib.Core.Bool.{Bool, true, false}
 use mathlib.Core.List.{List, [], _∷_}
 use Prim.Native.Nat.{ℕ, _-_}
-use lib.ListN.{length, getD}
+use lib.ListN.{length}
 use lib.Dec.{eqb, ltb}
 use Rattle.bits.specs.Answer.{Answer, answer, pick, truth}
 use Rattle.bits.specs.Field.{field}

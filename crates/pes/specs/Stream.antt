@@ -6,8 +6,11 @@ use Prim.Native.Nat.{ℕ, _%_, _^_}
 use lib.Dec.{eqb, leb, ltb}
 use Rattle.bits.specs.Answer.{pick}
 use Rattle.pes.specs.declared.StreamId.{StreamId}
-use Rattle.pes.specs.declared.StreamId.the-variants.{ProgramStreamMap, PrivateStream1, PaddingStream, PrivateStream2, Audio, Video, EcmStream, EmmStream, DsmCc, Iso13522Stream}
-use Rattle.pes.specs.declared.StreamId.the-variants.{H2221TypeA, H2221TypeB, H2221TypeC, H2221TypeD, H2221TypeE, AncillaryStream, SlPacketizedStream, FlexMuxStream, MetadataStream, ExtendedStreamId, ReservedDataStream, ProgramStreamDirectory, Unknown}
+use Rattle.pes.specs.declared.StreamId.the-variants.{ProgramStreamMap, PrivateStream1, PaddingStream, PrivateStream2, Audio, Video}
+use Rattle.pes.specs.declared.StreamId.the-variants.{EcmStream, EmmStream, DsmCc, Iso13522Stream}
+use Rattle.pes.specs.declared.StreamId.the-variants.{H2221TypeA, H2221TypeB, H2221TypeC, H2221TypeD, H2221TypeE, AncillaryStream}
+use Rattle.pes.specs.declared.StreamId.the-variants.{SlPacketizedStream, FlexMuxStream, MetadataStream, ExtendedStreamId}
+use Rattle.pes.specs.declared.StreamId.the-variants.{ReservedDataStream, ProgramStreamDirectory, Unknown}
 
 -- what an id stands for: ids below BC stand in no row; C0 to DF are audio and E0 to EF video, each with its low five bits
 unfoldable pub streamId : ℕ → StreamId

@@ -2,7 +2,8 @@
 ghost use mathlib.Core.Path.{_≡_};
 ghost use Rattle.bits.specs.Answer.{partOf};
 ghost use Rattle.pes.specs.Stream.{streamId, isParsed};
-ghost use Rattle.pes.specs.Head.{givenHead, givenStreamId, givenLength, givenContents, readHead, readStreamId, readLength, readContents, contentsPart};
+ghost use Rattle.pes.specs.Head.{givenHead, givenStreamId, givenLength, givenContents, readHead, readStreamId, readLength};
+ghost use Rattle.pes.specs.Head.{readContents, contentsPart};
 use bits::wide;
 
 // What a stream id stands for.

@@ -1,6 +1,6 @@
 -- PTS and DTS (clause 2.4.3.6, the PES packet table): 4 bits of prefix, then 33 bits of value in parts of 3, 15 and 15, each part
 -- followed by a marker bit.
-use mathlib.Core.Bool.{Bool, true, false}
+use mathlib.Core.Bool.{Bool, false}
 use mathlib.Core.List.{List, [], _∷_}
 use Prim.Native.Nat.{ℕ, _+_, _-_, _*_, _/_, _^_}
 use lib.ListN.{length}
@@ -9,7 +9,6 @@ use Rattle.bits.specs.Answer.{Answer, answer, pick, limited}
 use Rattle.bits.specs.Field.{bit, field}
 use Rattle.bits.specs.Numbers.{done, wrongLength, markerBitNotSet, incorrectPrefixBits, outOfRange}
 use Rattle.bits.specs.Pack.{Part, part, joined, bytesOf}
-use Rattle.timestamp.specs.declared.Timestamp.{Timestamp}
 use Rattle.timestamp.specs.declared.TimestampMade.{TimestampMade}
 use Rattle.timestamp.specs.declared.TimestampRead.{TimestampRead}
 use Rattle.timestamp.specs.declared.TimestampRead.the-variants.{Done, WrongLength, IncorrectPrefixBits, MarkerBitNotSet}

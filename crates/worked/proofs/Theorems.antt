@@ -1,15 +1,12 @@
 -- The worked examples hold.
 -- Assumes nothing.
-use mathlib.Core.Path.{_≡_, refl}
-use mathlib.Core.List.{List}
-use Prim.Native.Nat.{ℕ}
-use lib.ListN.{length}
+use mathlib.Core.Path.{refl}
 use Rattle.bits.specs.Answer.{All}
 use Rattle.bits.specs.Field.{bit, field}
 use Rattle.timestamp.specs.Stamp.{stampValue, readStamp, readPrefixed, likelyWrapped}
-use Rattle.contents.specs.Contents.{dataLength, timesSize, escrAt, rateAt, trickAt, copyInfoAt, crcAt, fieldsEnd, payloadAt, guarded, readPtsDts}
+use Rattle.contents.specs.Contents.{dataLength, timesSize, escrAt, rateAt, trickAt, copyInfoAt, crcAt, fieldsEnd, payloadAt, guarded}
+use Rattle.contents.specs.Contents.{readPtsDts}
 use Rattle.pes.specs.Stream.{parsedId}
-use Rattle.writer.specs.declared.Unit.{Unit}
 use Rattle.writer.specs.Unit.{dataOf, statedLength, countOf}
 use Rattle.writer.specs.Writer.{routeTests, unitTests, sizeTests, writeOf}
 use Rattle.worked.specs.Examples.{Holds, examples}

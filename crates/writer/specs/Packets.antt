@@ -1,6 +1,5 @@
 -- The packets of a unit, by the tables of the standard: the header, then header and payload cut into parts of 184 bytes.
 use mathlib.Core.Path.{_≡_}
-use mathlib.Core.Bool.{Bool, true, false}
 use mathlib.Core.List.{List, [], _∷_, _++_}
 use Prim.Native.Nat.{ℕ, zero, suc, _+_, _-_, _/_, _%_, _^_, _≤_}
 use lib.ListN.{length, take, drop, replicate}
@@ -13,7 +12,8 @@ use Rattle.writer.specs.declared.Times.{Times}
 use Rattle.writer.specs.declared.Times.the-variants.{Untimed, Pts, Both}
 use Rattle.writer.specs.declared.Escr.{Escr}
 use Rattle.writer.specs.declared.Unit.{Unit}
-use Rattle.writer.specs.Unit.{Field, absent, holds, rateField, byteField, crcField, timesFlags, escrFlag, fieldFlag, dataOf, statedLength, countOf}
+use Rattle.writer.specs.Unit.{Field, absent, holds, rateField, byteField, crcField, timesFlags, escrFlag, fieldFlag, dataOf}
+use Rattle.writer.specs.Unit.{statedLength, countOf}
 
 -- ---- the header (clause 2.4.3.6, the PES packet table)
 
@@ -21,9 +21,11 @@ use Rattle.writer.specs.Unit.{Field, absent, holds, rateField, byteField
 abbrev pub headTable : Unit → ℕ → List Part
 headTable u n =
     part 24 1 ∷ part 8 (u .id) ∷ part 16 (statedLength u n)
-    ∷ part 2 2 ∷ part 2 0 ∷ part 1 (truth (u .priority)) ∷ part 1 (truth (u .alignment)) ∷ part 1 (truth (u .copyright)) ∷ part 1 (truth (u .original))
-    ∷ part 2 (timesFlags (u .times)) ∷ part 1 (escrFlag (u .escr)) ∷ part 1 (fieldFlag (rateField (u .rate))) ∷ part 1 (fieldFlag (byteField (u .trick)))
-    ∷ part 1 (fieldFlag (byteField (u .copy))) ∷ part 1 (fieldFlag (crcField (u .crc))) ∷ part 1 0
+    ∷ part 2 2 ∷ part 2 0 ∷ part 1 (truth (u .priority)) ∷ part 1 (truth (u .alignment))
+    ∷ part 1 (truth (u .copyright)) ∷ part 1 (truth (u .original))
+    ∷ part 2 (timesFlags (u .times)) ∷ part 1 (escrFlag (u .escr))
+    ∷ part 1 (fieldFlag (rateField (u .rate))) ∷ part 1 (fieldFlag (byteField (u .trick))) ∷ part 1 (fieldFlag (byteField (u .copy)))
+    ∷ part 1 (fieldFlag (crcField (u .crc))) ∷ part 1 0
     ∷ part 8 (dataOf u) ∷ []
 
 -- prefix 0010 of a PTS alone, 0011 and 0001 of a pair

@@ -1,7 +1,6 @@
 -- A unit to write: how long its header is, and how many packets it takes.
-use mathlib.Core.Bool.{Bool, true, false}
 use Prim.Native.Nat.{ℕ, _+_, _*_, _/_}
-use Rattle.bits.specs.Answer.{pick, truth}
+use Rattle.bits.specs.Answer.{pick}
 use Rattle.writer.specs.declared.Times.{Times}
 use Rattle.writer.specs.declared.Times.the-variants.{Untimed, Pts, Both}
 use Rattle.writer.specs.declared.Escr.{Escr}

@@ -1,6 +1,6 @@
 -- The block keeps its length, and what is moved lies below `filled`.
 use mathlib.Core.Path.{_≡_}
-use Prim.Native.Nat.{_-_, _≤_}
+use Prim.Native.Nat.{_-_}
 use lib.ListN.{length}
 use borrow.Author.Needs.{needs}
 use Rattle.events.proofs.keep.Statement.{statement}
