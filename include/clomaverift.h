@@ -2,11 +2,12 @@
    Made by tools/header from the sources of the crates host and host_streams: not to be edited.
 
    A function returns one word: the number of its answer and, on a refusal, 256 times the first and 65,536 times the second number named
-   with it. On 0, and only then, it writes its out numbers, unless its comment says otherwise. A truth value is 0 or 1. A part of lent
-   bytes goes out as place and length.
+   with it. On 0, and only then, it writes its out numbers, unless its comment says otherwise. A truth value is 0 or 1. A part of lent bytes
+   goes out as place and length.
 
-   Bytes are lent as pointer and length. No pointer may be null, also where the length is 0, and no two of the numbers and bytes lent in
-   one call may share a byte where one of them is written. A function keeps no pointer, allocates nothing and has no state of its own. */
+   Bytes are lent as pointer and length, a row of numbers as a pointer to the first of as many as the function's comment says. No pointer
+   may be null, also where the length is 0, and no two of the numbers and bytes lent in one call may share a byte where one of them is
+   written. A function keeps no pointer, allocates nothing and has no state of its own. */
 #ifndef CLOMAVERIFT_H
 #define CLOMAVERIFT_H
 
@@ -135,7 +136,10 @@ uint32_t cmv_adaptation_extension_seamless_splice(const uint8_t *buf, size_t buf
 /* pes::from_bytes */
 uint32_t cmv_pes_header_from_bytes(const uint8_t *buf, size_t buf_len);
 
-/* pes::stream_id */
+/* pes::stream_id: kind C0 hex audio and E0 hex video, each with the low five bits of the id; kind 0 an id below BC hex, with the id. Any
+   other kind is the id itself, with 0: in hex BC program stream map, BD private stream 1, BE padding, BF private stream 2, F0 ECM, F1
+   EMM, F2 DSM-CC, F3 ISO 13522, F4 to F8 H.222.1 types A to E, F9 ancillary, FA SL-packetized, FB FlexMux, FC metadata, FD extended
+   stream id, FE reserved data, FF program stream directory. */
 uint32_t cmv_pes_header_stream_id(const uint8_t *buf, size_t buf_len, uint64_t *kind, uint64_t *low);
 
 /* pes::pes_packet_length: kind 0 unbounded, kind 1 bounded */
@@ -218,7 +222,10 @@ uint32_t cmv_pes_contents_escr(const uint8_t *buf, size_t buf_len, uint64_t *bas
 /* contents::es_rate */
 uint32_t cmv_pes_contents_es_rate(const uint8_t *buf, size_t buf_len, uint64_t *value);
 
-/* contents::dsm_trick_mode */
+/* contents::dsm_trick_mode: kind 0 fast forward and kind 3 fast reverse, each with field id, intra slice refresh and frequency
+   truncation (which coefficients may be non-zero: 0 DC only, 1 the first three, 2 the first six, 3 all); kind 1 slow motion and kind 4
+   slow reverse, each with the repeat count; kind 2 freeze frame, with field id and reserved bits; kind 5 reserved, with its bits. A
+   number that a kind does not have is 0. */
 uint32_t cmv_pes_contents_dsm_trick_mode(const uint8_t *buf, size_t buf_len, uint64_t *kind, uint64_t *first, uint64_t *second,
     uint64_t *third);
 

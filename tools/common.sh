@@ -4,7 +4,8 @@
 top=$(cd "$(dirname "${BASH_SOURCE[0]}")/.." && pwd -P)
 target=$top/target
 parts=(host host_streams) # the crates that are built as archives: together they are the library
-library=("$target/staticlib/libhost.a" "$target/staticlib/libhost_streams.a")
+library=("${parts[@]/#/$target/staticlib/lib}")
+library=("${library[@]/%/.a}")
 triple=x86_64-unknown-linux-gnu # what the library is compiled for
 
 fail() {
@@ -74,11 +75,13 @@ say_oracle() {
     esac
 }
 
-# A program of rust/ with the oracle in it, as target/NAME/libNAME.a: all but the library, so that another library costs a link.
+# A program of rust/ with the oracle in it, as target/NAME/libNAME.a: all but the library, so that another library costs a link. It has
+# the library's declarations, and may have modules of the differential.
 need_rust() { # NAME
     local name=$1 archive=$target/$1/lib$1.a rustc
     need_oracle
-    up_to_date "$archive" "$top/rust/$name" "$target/oracle/mode" && return
+    up_to_date "$archive" "$top/rust/$name" "$top/rust/differential" "$top/rust/clomaverift/src/declarations.rs" "$target/oracle/mode" &&
+        return
     rustc=$(find_rustc)
     mkdir -p "$target/$name"
     "$rustc" --target "$triple" --crate-name "$name" --crate-type staticlib --edition 2021 -C opt-level=3 \

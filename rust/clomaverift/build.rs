@@ -1,6 +1,9 @@
-//! Links the two archives of the proved library, libhost.a and libhost_streams.a: those of the folder that CLOMAVERIFT_LIBRARY names, or
-//! of the repository's target/staticlib.
+//! Links the archives of the proved library: those of the folder that CLOMAVERIFT_LIBRARY names, or of the repository's target/staticlib.
 
+#[path = "src/declarations.rs"]
+mod declarations;
+
+use declarations::ARCHIVES;
 use std::env;
 use std::path::PathBuf;
 
@@ -11,7 +14,7 @@ fn main() {
         None => PathBuf::from(env!("CARGO_MANIFEST_DIR")).join("../../target/staticlib"),
     };
     println!("cargo:rustc-link-search=native={}", folder.display());
-    for name in ["host_streams", "host"] {
+    for name in ARCHIVES {
         let archive = folder.join(format!("lib{name}.a"));
         assert!(archive.exists(), "{} is not there: run 'rt staticlib {name}'", archive.display());
         println!("cargo:rerun-if-changed={}", archive.display());

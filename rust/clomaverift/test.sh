@@ -1,5 +1,5 @@
 #!/usr/bin/env bash
-# rust/clomaverift/test.sh : builds the crate over the two archives of target/staticlib, by rustc alone, and runs its tests: those of its
+# rust/clomaverift/test.sh : builds the crate over the archives of target/staticlib, by rustc alone, and runs its tests: those of its
 # modules, of tests/, of its documentation, and the examples on the sample stream. An archive that is not there is built first.
 set -euo pipefail
 # shellcheck source-path=SCRIPTDIR source=../../tools/common.sh
@@ -8,7 +8,7 @@ set -euo pipefail
 here=$top/rust/clomaverift
 out=$target/clomaverift
 rustc=$(find_rustc)
-libraries=(-L "native=$target/staticlib" -l static=host_streams -l static=host)
+libraries=(-L "native=$target/staticlib" "${parts[@]/#/-lstatic=}")
 crate=(--extern "clomaverift=$out/libclomaverift.rlib")
 flags=(--target "$triple" --edition 2021 -D warnings)
 mapfile -t tests < <(basename -s .rs "$here"/tests/*.rs)

@@ -1,7 +1,6 @@
-//! The library's C interface, and safe calls of it.
-//!
-//! A Rattle `&[u8]` is two C arguments, pointer and length; `&mut u64` is one pointer. Nothing checks these declarations against
-//! the library's source: they have to be kept equal by hand.
+//! Safe calls of the entries that read packets, fields and headers.
+
+use crate::declarations::*;
 
 /// An entry that reads a slice and has only out numbers beside it.
 #[derive(Clone, Copy)]
@@ -19,12 +18,9 @@ impl Reader {
     }
 }
 
-/// Declares entries that read a slice, and makes a `Reader` of each: `READER = entry(out numbers);`.
+/// Makes a `Reader` of each entry that reads a slice: `READER = entry(out numbers);`.
 macro_rules! readers {
     ($($reader:ident = $entry:ident($($out:ident),*);)*) => {
-        extern "C" {
-            $(fn $entry(buf: *const u8, len: usize $(, $out: *mut u64)*) -> u32;)*
-        }
         $(pub const $reader: Reader = Reader {
             outs: <[&str]>::len(&[$(stringify!($out)),*]),
             call: |buf, outs| {
@@ -36,12 +32,9 @@ macro_rules! readers {
     };
 }
 
-/// Declares entries on numbers, and makes a safe function of each: `function = entry(numbers => out numbers);`.
+/// Makes a safe function of each entry on numbers: `function = entry(numbers => out numbers);`.
 macro_rules! functions {
     ($($function:ident = $entry:ident($($number:ident: $kind:ty),* => $($out:ident),*);)*) => {
-        extern "C" {
-            $(fn $entry($($number: $kind,)* $($out: *mut u64),*) -> u32;)*
-        }
         $(pub fn $function($($number: $kind,)* [$($out),*]: &mut [u64; [$(stringify!($out)),*].len()]) -> u32 {
             // The out numbers are live: all that the entry asks.
             unsafe { $entry($($number,)* $($out),*) }

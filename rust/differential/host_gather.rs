@@ -1,37 +1,7 @@
-//! The C interface of the gathering store, and safe calls of it.
-//!
-//! A state is three numbers that the caller keeps and lends. Nothing checks these declarations against the library's source: they
-//! have to be kept equal by hand.
+//! Safe calls of the gathering store's entries. A state is three numbers that the caller keeps and lends.
 
+use crate::declarations::{cmv_gather, cmv_gather_bytes};
 use crate::event::Event;
-
-extern "C" {
-    fn cmv_gather(
-        opened: *mut u8,
-        count: *mut usize,
-        lies: *mut u8,
-        packet: *const u8,
-        packet_len: usize,
-        kind: u8,
-        place: u8,
-        length: u8,
-        store: *mut u8,
-        store_len: usize,
-    ) -> u32;
-
-    fn cmv_gather_bytes(
-        opened: u8,
-        count: usize,
-        lies: u8,
-        packet: *const u8,
-        packet_len: usize,
-        store: *const u8,
-        store_len: usize,
-        slice: *mut u64,
-        place: *mut u64,
-        length: *mut u64,
-    ) -> u32;
-}
 
 /// Where the bytes lie, if not at a place of the packet: in the store.
 pub const STORE: u8 = 255;

@@ -1,52 +1,6 @@
-//! The C interface of the event machine and of its log, and safe calls of it.
-//!
-//! A state is four numbers that the caller keeps and lends. A Rattle `&mut [u8]` is two C arguments, pointer and length, as `&[u8]`
-//! is. Nothing checks these declarations against the library's source: they have to be kept equal by hand.
+//! Safe calls of the entries of the event machine and of its log. A state is four numbers that the caller keeps and lends.
 
-pub type Entry = unsafe extern "C" fn(
-    phase: *mut u8,
-    last: *mut u8,
-    taken: *mut u32,
-    place: *mut usize,
-    bytes: *const u8,
-    len: usize,
-    log: *mut u8,
-    log_len: usize,
-) -> u32;
-
-extern "C" {
-    fn cmv_machine_step(
-        phase: *mut u8,
-        last: *mut u8,
-        taken: *mut u32,
-        place: *mut usize,
-        packet: *const u8,
-        packet_len: usize,
-        log: *mut u8,
-        log_len: usize,
-    ) -> u32;
-
-    fn cmv_machine_run(
-        phase: *mut u8,
-        last: *mut u8,
-        taken: *mut u32,
-        place: *mut usize,
-        bytes: *const u8,
-        len: usize,
-        log: *mut u8,
-        log_len: usize,
-    ) -> u32;
-
-    fn cmv_log_entry_at(
-        log: *const u8,
-        len: usize,
-        at: usize,
-        kind: *mut u64,
-        index: *mut u64,
-        place: *mut u64,
-        length: *mut u64,
-    ) -> u32;
-}
+use crate::declarations::{cmv_log_entry_at, cmv_machine_run, cmv_machine_step};
 
 /// The numbers of the phases.
 pub const BEGIN: u8 = 0;
@@ -81,20 +35,25 @@ impl State {
     }
 }
 
-/// An entry that advances a state over packets and writes their events to a log.
-pub struct Advance(pub Entry);
+/// What advances a state over packets and writes their events to a log. The library only reads the packets. They are taken as `&mut`
+/// here, so that the compiler expects a write and the caller's check that there was none is a true one.
+pub type Advance = fn(&mut State, packets: &mut [u8], log: &mut [u8]) -> u32;
 
-pub const STEP: Advance = Advance(cmv_machine_step);
-pub const RUN: Advance = Advance(cmv_machine_run);
+/// Makes a safe function of each entry that does so.
+macro_rules! advances {
+    ($($function:ident = $entry:ident;)*) => {
+        $(pub fn $function(state: &mut State, packets: &mut [u8], log: &mut [u8]) -> u32 {
+            let State { phase, last, taken, place } = state;
+            let (packets, packets_len) = (packets.as_mut_ptr(), packets.len());
+            // The pointers and the lengths are those of live numbers and slices, no two of which share a byte: all that the entry asks.
+            unsafe { $entry(phase, last, taken, place, packets, packets_len, log.as_mut_ptr(), log.len()) }
+        })*
+    };
+}
 
-impl Advance {
-    /// The library only reads the packets. They are taken as `&mut` here, so that the compiler expects a write and the caller's check
-    /// that there was none is a true one.
-    pub fn call(&self, state: &mut State, packets: &mut [u8], log: &mut [u8]) -> u32 {
-        let State { phase, last, taken, place } = state;
-        // The pointers and the lengths are those of live numbers and slices, no two of which share a byte: all that the entry asks.
-        unsafe { (self.0)(phase, last, taken, place, packets.as_mut_ptr(), packets.len(), log.as_mut_ptr(), log.len()) }
-    }
+advances! {
+    step = cmv_machine_step;
+    run = cmv_machine_run;
 }
 
 /// The log is only read; it is `&mut` for the same reason.

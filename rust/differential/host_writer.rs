@@ -1,37 +1,6 @@
-//! The C interface of the writer, and a safe call of it. Nothing checks the declaration against the library's source: it has to be
-//! kept equal by hand.
+//! A safe call of the writer's entry.
 
-extern "C" {
-    fn cmv_write(
-        pid: u16,
-        counter: u8,
-        id: u8,
-        bounded: u8,
-        priority: u8,
-        alignment: u8,
-        copyright: u8,
-        original: u8,
-        times: u8,
-        pts: u64,
-        dts: u64,
-        escr_there: u8,
-        escr_base: u64,
-        escr_extension: u16,
-        rate_there: u8,
-        rate: u32,
-        trick_there: u8,
-        trick: u8,
-        copy_there: u8,
-        copy: u8,
-        crc_there: u8,
-        crc: u16,
-        payload: *const u8,
-        payload_len: usize,
-        out: *mut u8,
-        out_len: usize,
-        count: *mut u64,
-    ) -> u32;
-}
+use crate::declarations::cmv_write;
 
 /// The fields of a unit as they are handed over. A flag is 0 for no and any other number for yes; a field that is not there has a
 /// value too, which is not looked at.

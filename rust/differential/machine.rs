@@ -3,7 +3,7 @@
 use crate::answer::Answer;
 use crate::consumer::{phase_before, start, Oracle, SIZE};
 use crate::event::{decoded, ENTRY};
-use crate::host_machine::{log_entry_at, Advance, State, BEGIN, IGNORE_REST, NONE, STARTED, STEP};
+use crate::host_machine::{self, log_entry_at, Advance, State, BEGIN, IGNORE_REST, NONE, STARTED};
 use crate::kept::Keeps;
 use crate::lent::Lent;
 use crate::machine_stream;
@@ -53,10 +53,10 @@ pub struct Call<'a> {
 impl Call<'_> {
     /// Calls the entry and counts its answer, which is to be this number with this state after it. What the log is to hold then,
     /// `expect` has said.
-    pub fn compare(self, entry: &Advance, tally: &mut Tally, number: u32, after: State) {
+    pub fn compare(self, entry: Advance, tally: &mut Tally, number: u32, after: State) {
         let Call { state, packets, part, log, room } = self;
         let mut now = state;
-        let word = entry.call(&mut now, &mut packets.slice()[part.clone()], &mut log.slice()[..room]);
+        let word = entry(&mut now, &mut packets.slice()[part.clone()], &mut log.slice()[..room]);
         let expected = match number {
             0 => Answer::done(&after.numbers()),
             number => Answer::refused(number, &[]),
@@ -120,7 +120,7 @@ impl Cases {
         };
         let tally = if can_be_reached(state) { &mut self.step } else { &mut self.ruled };
         let call = Call { state, packets: &mut self.packet, part: 0..packet.len(), log: &mut self.log, room };
-        call.compare(&STEP, tally, number, after);
+        call.compare(host_machine::step, tally, number, after);
         after
     }
 

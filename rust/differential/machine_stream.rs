@@ -3,7 +3,7 @@
 use crate::consumer::{Oracle, SIZE};
 use crate::event::{self, ENTRY};
 use crate::files::Files;
-use crate::host_machine::{log_entry_at, State, IGNORE_REST, RUN, STARTED, STEP};
+use crate::host_machine::{self, log_entry_at, State, IGNORE_REST, STARTED};
 use crate::lent::Lent;
 use crate::machine::{entry_answer, set_head, Call};
 use crate::rng::Rng;
@@ -173,7 +173,7 @@ impl Walk {
     fn step(&mut self, nth: usize, state: State, number: u32, after: State) {
         let (part, room) = (nth * SIZE..(nth + 1) * SIZE, self.step_log.len());
         let call = Call { state, packets: &mut self.packets, part, log: &mut self.step_log, room };
-        call.compare(&STEP, &mut self.step, number, after);
+        call.compare(host_machine::step, &mut self.step, number, after);
     }
 
     fn runs(&mut self, told: &Told, rng: &mut Rng) {
@@ -197,7 +197,7 @@ impl Walk {
         let (state, part, room) = (piece.state, piece.from * SIZE..end, piece.room);
         piece.lost.into_iter().for_each(|lost| self.packets.put(lost * SIZE, 0xb8));
         let call = Call { state, packets: &mut self.packets, part, log: &mut self.log, room };
-        call.compare(&RUN, &mut self.run, number, after);
+        call.compare(host_machine::run, &mut self.run, number, after);
         piece.lost.into_iter().for_each(|lost| self.packets.put(lost * SIZE, Packet::SYNC_BYTE));
     }
 

@@ -17,6 +17,8 @@ mod answer;
 mod consumer;
 mod contents;
 mod control;
+#[path = "../clomaverift/src/declarations.rs"]
+mod declarations;
 mod event;
 mod fields;
 mod files;

@@ -4,7 +4,7 @@ use crate::answer::Answer;
 use crate::consumer::{Oracle, SIZE};
 use crate::event::{self, Event, ENTRY};
 use crate::gatherer::Gatherer;
-use crate::host_machine::{State, BEGIN, IGNORE_REST, NONE, RUN, STARTED};
+use crate::host_machine::{self, State, BEGIN, IGNORE_REST, NONE, STARTED};
 use crate::host_writer::Unit;
 use crate::lent::Lent;
 use crate::machine::Call;
@@ -157,7 +157,7 @@ impl ReadBack {
         }
         let part = 0..written.count * SIZE;
         let call = Call { state, packets: written.packets, part, log: &mut self.log, room };
-        call.compare(&RUN, &mut self.run, 0, after);
+        call.compare(host_machine::run, &mut self.run, 0, after);
     }
 
     pub fn into_tallies(self) -> [Tally; 5] {

@@ -18,6 +18,8 @@ mod consumer;
 mod contents;
 #[path = "../differential/control.rs"]
 mod control;
+#[path = "../clomaverift/src/declarations.rs"]
+mod declarations;
 #[path = "../differential/event.rs"]
 mod event;
 #[path = "../differential/files.rs"]

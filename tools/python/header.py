@@ -1,22 +1,23 @@
-"""header.py [--check] : makes of the sources of the crates host and host_streams what callers in other languages need to be told of
-every exported function: include/clomaverift.h for C and C++, and the extern block of rust/clomaverift/src/ffi.rs between its two
-marks. With --check nothing is written, and a file that differs from what would be made is named; the exit status is 1 then.
+"""header.py [--check] : makes of the sources of the library's crates, which tools/common.sh lists, what callers in other languages need
+to be told of every exported function: include/clomaverift.h for C and C++, and rust/clomaverift/src/declarations.rs for all Rust of
+the repository. With --check nothing is written, and a file that differs from what would be made is named; the exit status is 1 then.
 
-A `&[u8]` of the sources is two C arguments, pointer and length; a `&mut` number is a pointer; a number is itself.
+A `&[u8]` of the sources is two C arguments, pointer and length; a `&mut` number is a pointer, and so is a `&mut` row of numbers; a
+number is itself.
 """
 import pathlib
 import re
 import sys
 
 TOP = pathlib.Path(__file__).resolve().parent.parent.parent
-CRATES = ("host", "host_streams")
+CRATES = re.search(r"^parts=\(([\w ]+)\)", (TOP / "tools/common.sh").read_text(), re.MULTILINE)[1].split()
 HEADER = TOP / "include" / "clomaverift.h"
-FFI = TOP / "rust" / "clomaverift" / "src" / "ffi.rs"
-FIRST_MARK = "// ---- made by tools/header\n"
-LAST_MARK = "// ---- end of what tools/header makes\n"
+DECLARATIONS = TOP / "rust" / "clomaverift" / "src" / "declarations.rs"
 WIDTH = 140  # of a line of the header
 RUST_WIDTH = 120  # of a line of Rust, as rust/rustfmt.toml has it
 
+SLICE = re.compile(r"&(mut )?\[u8\]")
+ROW = re.compile(r"&mut \[(\w+); (\d+)\]")
 C_TYPES = {"u8": "uint8_t", "u16": "uint16_t", "u32": "uint32_t", "u64": "uint64_t", "usize": "size_t"}
 
 ENTRY = re.compile(r'((?://[^\n]*\n)*)#\[no_mangle\]\npub extern "C" fn (\w+)\(([^)]*)\) -> (\w+)\n')
@@ -30,8 +31,22 @@ class Entry:
         self.comment = comment_text(comment)
         self.name = name
         pairs = (one.split(":") for one in parameters.split(",") if one.strip())
-        self.parameters = [(parameter.strip(), kind.strip()) for parameter, kind in pairs]
+        self.parameters = [Parameter(parameter.strip(), kind.strip()) for parameter, kind in pairs]
         self.answer = answer
+
+
+class Parameter:
+    """A parameter: its name, whether it is a slice, whether it is written, the type of its numbers, and how many a row of them has."""
+
+    def __init__(self, name, kind):
+        row = ROW.fullmatch(kind)
+        self.name = name
+        self.slice = bool(SLICE.fullmatch(kind))
+        self.written = kind.startswith("&mut ")
+        self.count = int(row[2]) if row else None
+        self.number = "u8" if self.slice else row[1] if row else kind.removeprefix("&mut ")
+        if self.number not in C_TYPES:
+            sys.exit(f"header.py: a parameter {name}: {kind} is not understood")
 
 
 def comment_text(lines):
@@ -46,14 +61,18 @@ def entries(text, path):
     return found
 
 
-def modules():
-    """For each source file that exports something: what its first comment says, and its entries."""
-    for crate in CRATES:
-        for path in sorted((TOP / "crates" / crate / "src").glob("*.rt")):
-            text = path.read_text()
-            found = entries(text, path)
-            if found:
-                yield comment_text(re.match(r"(?://[^\n]*\n)*", text)[0]), found
+def modules(crate):
+    """For each source file of a crate that exports something: what its first comment says, and its entries."""
+    for path in sorted((TOP / "crates" / crate / "src").glob("*.rt")):
+        text = path.read_text()
+        found = entries(text, path)
+        if found:
+            yield comment_text(re.match(r"(?://[^\n]*\n)*", text)[0]), found
+
+
+def listed(words):
+    """Words as a list in a sentence."""
+    return " and ".join(filter(None, (", ".join(words[:-1]), words[-1])))
 
 
 # ---- numbers
@@ -102,14 +121,13 @@ def c_comment(text):
     return wrapped(text, "/*", "  ", " */")
 
 
-def c_parameter(name, kind):
-    if kind == "&[u8]":
-        return [f"const uint8_t *{name}", f"size_t {name}_len"]
-    if kind == "&mut [u8]":
-        return [f"uint8_t *{name}", f"size_t {name}_len"]
-    if kind.startswith("&mut "):
-        return [f"{C_TYPES[kind[5:]]} *{name}"]
-    return [f"{C_TYPES[kind]} {name}"]
+def c_parameter(one):
+    number = C_TYPES[one.number]
+    if one.slice:
+        return [f"{'' if one.written else 'const '}{number} *{one.name}", f"size_t {one.name}_len"]
+    if one.count:
+        return [f"{number} {one.name}[{one.count}]"]
+    return [f"{number} {'*' if one.written else ''}{one.name}"]
 
 
 def laid_out(start, words, end, indent, width):
@@ -125,23 +143,29 @@ def laid_out(start, words, end, indent, width):
     return "\n".join(lines + [line]) + "\n"
 
 
+def c_said(entry):
+    """What is said of an entry, and how many numbers its rows have: in C the declaration does not hold a caller to it."""
+    rows = [f"{one.name}: {one.count} numbers" for one in entry.parameters if one.count]
+    return ". ".join([entry.comment.removesuffix("."), *rows]) if rows else entry.comment
+
+
 def c_declaration(entry):
-    words = [word for parameter in entry.parameters for word in c_parameter(*parameter)]
+    words = [word for parameter in entry.parameters for word in c_parameter(parameter)]
     start = f"{C_TYPES[entry.answer]} {entry.name}("
-    return c_comment(entry.comment) + laid_out(start, words, ");", "    ", WIDTH)
+    return c_comment(c_said(entry)) + laid_out(start, words, ");", "    ", WIDTH)
 
 
-INTRODUCTION = """\
-/* Clomaverift: the header reader of a transport stream analyser, proved. The functions of libhost.a and libhost_streams.a, for C and C++.
-   Made by tools/header from the sources of the crates host and host_streams: not to be edited.
-
-   A function returns one word: the number of its answer and, on a refusal, 256 times the first and 65,536 times the second number named
-   with it. On 0, and only then, it writes its out numbers, unless its comment says otherwise. A truth value is 0 or 1. A part of lent
-   bytes goes out as place and length.
-
-   Bytes are lent as pointer and length. No pointer may be null, also where the length is 0, and no two of the numbers and bytes lent in
-   one call may share a byte where one of them is written. A function keeps no pointer, allocates nothing and has no state of its own. */
-"""
+ARCHIVES = listed([f"lib{crate}.a" for crate in CRATES])
+INTRODUCTION = [
+    f"Clomaverift: the header reader of a transport stream analyser, proved. The functions of {ARCHIVES}, for C and C++. Made by "
+    f"tools/header from the sources of the crates {listed(CRATES)}: not to be edited.",
+    "A function returns one word: the number of its answer and, on a refusal, 256 times the first and 65,536 times the second number named "
+    "with it. On 0, and only then, it writes its out numbers, unless its comment says otherwise. A truth value is 0 or 1. A part of lent "
+    "bytes goes out as place and length.",
+    "Bytes are lent as pointer and length, a row of numbers as a pointer to the first of as many as the function's comment says. No "
+    "pointer may be null, also where the length is 0, and no two of the numbers and bytes lent in one call may share a byte where one of "
+    "them is written. A function keeps no pointer, allocates nothing and has no state of its own.",
+]
 
 OPENING = """\
 #ifndef CLOMAVERIFT_H
@@ -178,12 +202,19 @@ def c_enum(rows):
     return "enum {\n" + "".join(lines) + "};\n"
 
 
+def introduction():
+    """One comment, of a paragraph each."""
+    first, *middle, last = INTRODUCTION
+    paragraphs = [wrapped(first, "/*", "  ", "")] + [wrapped(one, "  ", "  ", "") for one in middle] + [wrapped(last, "  ", "  ", " */")]
+    return "\n".join(paragraphs)
+
+
 def header():
     refusals = c_enum([(name, number, f" /* {when} */") for name, number, when in numbers()])
     events = "/* The kinds of events. */\n" + c_enum([(name, number, "") for name, number in kinds()])
     size = f"/* The bytes of a packet. */\n#define CMV_PACKET_SIZE {packet_size()}\n"
-    parts = [INTRODUCTION + OPENING, "/* ---- Numbers. */\n", refusals, WORDS, events, size]
-    for said, found in modules():
+    parts = [introduction() + OPENING, "/* ---- Numbers. */\n", refusals, WORDS, events, size]
+    for said, found in (module for crate in CRATES for module in modules(crate)):
         parts.append(wrapped(said, "/* ----", "  ", " */"))
         parts.extend(c_declaration(entry) for entry in found)
     return "\n".join(parts + [CLOSING])
@@ -192,32 +223,46 @@ def header():
 # ---- Rust
 
 
-def rust_parameter(name, kind):
-    if kind == "&[u8]":
-        return [f"{name}: *const u8", f"{name}_len: usize"]
-    if kind == "&mut [u8]":
-        return [f"{name}: *mut u8", f"{name}_len: usize"]
-    return [f"{name}: {kind.replace('&mut ', '*mut ')}"]
+RUST_OPENING = """\
+//! The functions of the library, a block for each of its archives. Made by tools/header from the sources of the crates that the archives
+//! are built from: not to be edited. What each function does and asks, include/clomaverift.h says.
+//!
+//! A `&[u8]` of the sources is two arguments, pointer and length; a `&mut` number is a pointer, and so is a `&mut` row of numbers.
+
+// A program declares them all, and calls some.
+#![allow(dead_code)]
+
+"""
+
+
+def rust_parameter(one):
+    if one.slice:
+        return [f"{one.name}: *{'mut' if one.written else 'const'} {one.number}", f"{one.name}_len: usize"]
+    number = f"[{one.number}; {one.count}]" if one.count else one.number
+    return [f"{one.name}: {'*mut ' if one.written else ''}{number}"]
 
 
 def rust_declaration(entry):
-    words = [word for parameter in entry.parameters for word in rust_parameter(*parameter)]
-    line = f"    fn {entry.name}({', '.join(words)}) -> {entry.answer};\n"
+    words = [word for parameter in entry.parameters for word in rust_parameter(parameter)]
+    line = f"    pub fn {entry.name}({', '.join(words)}) -> {entry.answer};\n"
     if len(line) <= RUST_WIDTH + 1:
         return line
-    return f"    fn {entry.name}(\n" + "".join(f"        {word},\n" for word in words) + f"    ) -> {entry.answer};\n"
+    return f"    pub fn {entry.name}(\n" + "".join(f"        {word},\n" for word in words) + f"    ) -> {entry.answer};\n"
 
 
-def ffi():
-    """The file as it is, with the extern block made anew."""
-    before, rest = FFI.read_text().split(FIRST_MARK)
-    _, after = rest.split(LAST_MARK)
-    block = "".join(rust_declaration(entry) for _, found in modules() for entry in found)
-    return f'{before}{FIRST_MARK}#[rustfmt::skip]\nextern "C" {{\n{block}}}\n{LAST_MARK}{after}'
+def rust_block(crate):
+    declared = "".join(rust_declaration(entry) for _, found in modules(crate) for entry in found)
+    return f'\n// lib{crate}.a\n#[rustfmt::skip]\nextern "C" {{\n{declared}}}\n'
+
+
+def declarations():
+    names = ", ".join(f'"{crate}"' for crate in CRATES)
+    archives = f"/// The names of the archives, without `lib` and `.a`.\npub const ARCHIVES: [&str; {len(CRATES)}] = [{names}];\n"
+    return RUST_OPENING + archives + "".join(map(rust_block, CRATES))
 
 
 def main():
-    made = {HEADER: header(), FFI: ffi()}
+    made = {HEADER: header(), DECLARATIONS: declarations()}
     differing = [path for path, text in made.items() if not path.exists() or path.read_text() != text]
     if sys.argv[1:] == ["--check"]:
         for path in differing:

@@ -57,7 +57,10 @@ fn values(s: StreamId) -> Pair
     }
 }
 
-// pes::stream_id
+// pes::stream_id: kind C0 hex audio and E0 hex video, each with the low five bits of the id; kind 0 an id below BC hex, with the id. Any
+// other kind is the id itself, with 0: in hex BC program stream map, BD private stream 1, BE padding, BF private stream 2, F0 ECM,
+// F1 EMM, F2 DSM-CC, F3 ISO 13522, F4 to F8 H.222.1 types A to E, F9 ancillary, FA SL-packetized, FB FlexMux, FC metadata,
+// FD extended stream id, FE reserved data, FF program stream directory.
 #[no_mangle]
 pub extern "C" fn cmv_pes_header_stream_id(buf: &[u8], kind: &mut u64, low: &mut u64) -> u32
     ensures { λ w. ⌜ Told (readStreamId (now (buf .entry))) w (now (kind .entry) ∷ now (low .entry) ∷ [])

@@ -24,9 +24,9 @@
 //!
 //! # Linking
 //!
-//! The library is two archives, `libhost.a` and `libhost_streams.a`, for x86-64. The build script takes them from the folder that the
-//! environment variable `CLOMAVERIFT_LIBRARY` names, or else from the repository's `target/staticlib`, where `rt staticlib host` and
-//! `rt staticlib host_streams` write them.
+//! The library is a few archives for x86-64, `libhost.a` among them. The build script takes them from the folder that the environment
+//! variable `CLOMAVERIFT_LIBRARY` names, or else from the repository's `target/staticlib`, where `rt staticlib host` writes `libhost.a`,
+//! and so the others. Where one is not there, it says which.
 //!
 //! # Example
 //!
@@ -49,6 +49,7 @@
 #![deny(unsafe_code)]
 #![warn(missing_docs)]
 
+mod declarations;
 mod demux;
 mod error;
 mod ffi;
