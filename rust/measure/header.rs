@@ -1,53 +1,22 @@
 //! PES headers: every field of the head and of the contents, read once.
 
+use crate::calls::Function;
+use crate::declarations::*;
 use crate::rng::Rng;
 use crate::sum::{ask, Given, Sum};
 use crate::timestamp::set_markers;
 use crate::values;
-use crate::Function;
 use mpeg2ts_reader::pes::{
     Copyright, DataAlignment, OriginalOrCopy, PesContents, PesError, PesHeader, PesParsedContents, StreamId,
 };
 use std::slice;
 
-extern "C" {
-    fn cmv_pes_header_stream_id(buf: *const u8, len: usize, kind: *mut u64, low: *mut u64) -> u32;
-    fn cmv_pes_header_pes_packet_length(buf: *const u8, len: usize, kind: *mut u64, length: *mut u64) -> u32;
-    fn cmv_pes_header_contents(buf: *const u8, len: usize, kind: *mut u64, place: *mut u64, length: *mut u64) -> u32;
-    fn cmv_pes_contents_from_bytes(buf: *const u8, len: usize) -> u32;
-    fn cmv_pes_contents_pes_priority(buf: *const u8, len: usize, value: *mut u64) -> u32;
-    fn cmv_pes_contents_data_alignment_indicator(buf: *const u8, len: usize, value: *mut u64) -> u32;
-    fn cmv_pes_contents_copyright(buf: *const u8, len: usize, value: *mut u64) -> u32;
-    fn cmv_pes_contents_original_or_copy(buf: *const u8, len: usize, value: *mut u64) -> u32;
-    fn cmv_pes_contents_pts_dts(
-        buf: *const u8,
-        len: usize,
-        kind: *mut u64,
-        pts_number: *mut u64,
-        pts: *mut u64,
-        dts_number: *mut u64,
-        dts: *mut u64,
-    ) -> u32;
-    fn cmv_pes_contents_escr(buf: *const u8, len: usize, base: *mut u64, extension: *mut u64) -> u32;
-    fn cmv_pes_contents_es_rate(buf: *const u8, len: usize, value: *mut u64) -> u32;
-    fn cmv_pes_contents_dsm_trick_mode(
-        buf: *const u8,
-        len: usize,
-        kind: *mut u64,
-        first: *mut u64,
-        second: *mut u64,
-        third: *mut u64,
-    ) -> u32;
-    fn cmv_pes_contents_additional_copy_info(buf: *const u8, len: usize, value: *mut u64) -> u32;
-    fn cmv_pes_contents_previous_pes_packet_crc(buf: *const u8, len: usize, value: *mut u64) -> u32;
-    fn cmv_pes_contents_payload(buf: *const u8, len: usize, place: *mut u64, length: *mut u64) -> u32;
-}
-
 /// Head, contents with every field, and some payload.
 const SIZE: usize = 64;
 const HEAD: usize = 6;
 
-pub const EVERY_FIELD: Function = Function { name: "pes_header::every_field", library, rust, size: SIZE, make };
+pub const EVERY_FIELD: Function =
+    Function { name: "PES header, every field", library, rust, count: 1_000_000, size: SIZE, make };
 
 /// What stands in the sum for contents that are refused: the Rust does not say why.
 const REFUSED: u64 = 5;

@@ -1,20 +1,23 @@
-//! Calls of one function in a loop, for a count of instructions.
+//! The library beside the Rust that it ports, in one process and on the same inputs, for counts of instructions and for times.
 //!
-//!     measure FUNCTION SIDE INPUTS CALLS
-//!     measure functions      lists the functions
-//!     measure recording SIDE FILE ROUNDS     the event machine over a recording: recording.rs
-//!     measure units FUNCTION SIDE ROUNDS     the writer and the gathering store: units.rs
+//!     measure rows FILE..                lists what is measured, a row to a line: its name, a tab, its inputs
+//!     measure count ROW SIDE FILE..      has one side do what the row says, once: prints how many units that is, and a sum
+//!     measure time ROW FILE..            has both sides do it, in turns: prints the best time of each, in nanoseconds a unit
+//!     measure list                       lists the events of standard input, by the Rust
 //!
-//! SIDE is `library`, `rust` (the oracle, giving its answer in the library's form) or `none` (an empty function: what the loop itself
-//! costs). INPUTS are `accepted` or `mixed`, the latter with refused ones among them; none is such that the Rust panics. Prints a sum
-//! over all answers, which has to be the same for both sides.
+//! ROW is a number from 0. SIDE is `library`, `rust` or `none`, at which nothing is done: what the loop itself costs. The sum is over all
+//! answers and has to be the same for the first two. Each FILE is a recording, with a row of its own.
 
 // Rust's own start-up reads /proc/self/maps, at which the toolchain's emulator crashes: `main` is C's.
 #![no_main]
 
+mod calls;
+#[path = "../clomaverift/src/declarations.rs"]
+mod declarations;
 #[path = "../differential/event.rs"]
 #[allow(dead_code)]
 mod event;
+mod gathering;
 mod header;
 #[path = "../differential/host_gather.rs"]
 #[allow(dead_code)]
@@ -27,6 +30,8 @@ mod host_writer;
 #[path = "../differential/kept.rs"]
 #[allow(dead_code)]
 mod kept;
+mod list;
+mod machine;
 mod packet;
 #[path = "../differential/pids.rs"]
 mod pids;
@@ -34,104 +39,56 @@ mod recording;
 #[path = "../differential/rng.rs"]
 #[allow(dead_code)]
 mod rng;
+mod row;
 mod sum;
 mod timestamp;
-mod units;
 #[path = "../differential/values.rs"]
 mod values;
+mod writer;
 
-use rng::Rng;
-use std::hint::black_box;
-
-/// A function that reads a slice, as both sides have it: the word returned, and the value where it is 0.
-type Entry = unsafe extern "C" fn(buf: *const u8, len: usize, value: *mut u64) -> u32;
-
-struct Function {
-    name: &'static str,
-    library: Entry,
-    rust: Entry,
-    /// The length of each input.
-    size: usize,
-    /// Makes an input of random bytes: one that is accepted, or any.
-    make: fn(&mut [u8], &mut Rng, accepted: bool),
-}
+use calls::Function;
+use row::{Row, Side};
 
 const FUNCTIONS: [Function; 4] =
     [timestamp::FROM_BYTES, timestamp::FROM_PTS_BYTES, packet::EVERY_FIELD, header::EVERY_FIELD];
 
-/// Found by its name: its own instructions are no part of what the loop costs.
-#[no_mangle]
-#[inline(never)]
-unsafe extern "C" fn measure_none(_buf: *const u8, _len: usize, _value: *mut u64) -> u32 {
-    0
+fn rows(files: &[String]) -> Vec<Row> {
+    let functions = FUNCTIONS.into_iter().flat_map(Function::rows);
+    let recordings = files.iter().map(|file| recording::row(file));
+    functions.chain(recordings).chain([writer::row(), gathering::row()]).collect()
 }
 
-const INPUTS: usize = 1 << 10;
+/// The row of this number with its inputs made.
+fn work(number: &str, files: &[String]) -> Option<Box<dyn row::Work>> {
+    let row = rows(files).into_iter().nth(number.parse().ok()?)?;
+    (row.begin)()
+}
 
-/// All accepted, or every second one of any kind.
-fn inputs(function: &Function, kind: &str) -> Option<Vec<u8>> {
-    let some_refused = match kind {
-        "accepted" => false,
-        "mixed" => true,
+fn listed(files: &[String]) -> String {
+    let lines: Vec<String> = rows(files).iter().map(|row| format!("{}\t{}", row.name, row.inputs)).collect();
+    lines.join("\n")
+}
+
+/// Prints what the words ask for; nothing where they are no command, or a file cannot be read.
+fn run(words: &[String]) -> Option<()> {
+    let text = match words {
+        [word] if word == "list" => return list::list().ok(),
+        [word, files @ ..] if word == "rows" => listed(files),
+        [word, row, side, files @ ..] if word == "count" => row::count(work(row, files)?.as_mut(), Side::named(side)?),
+        [word, row, files @ ..] if word == "time" => row::time(work(row, files)?.as_mut()),
         _ => return None,
     };
-    let mut rng = Rng::new(1);
-    let mut bytes = vec![0; INPUTS * function.size];
-    for (nth, input) in bytes.chunks_mut(function.size).enumerate() {
-        rng.fill(input);
-        (function.make)(input, &mut rng, !some_refused || nth % 2 == 0);
-    }
-    Some(bytes)
-}
-
-/// The same loop for every function: the call goes through a pointer that the compiler does not know.
-#[inline(never)]
-fn sum_of_calls(entry: Entry, bytes: &[u8], size: usize, calls: usize) -> u64 {
-    let mut sum = u64::MAX; // not 0, which would stay for the empty function and takes other instructions to print
-    for nth in 0..calls {
-        let input = &bytes[nth % INPUTS * size..][..size];
-        let mut value = 0;
-        // The slice and the value are live.
-        let word = unsafe { entry(input.as_ptr(), input.len(), &mut value) };
-        sum = sum.rotate_left(1) ^ value ^ u64::from(word);
-    }
-    sum
-}
-
-fn measure(words: &[String]) -> Option<u64> {
-    let [name, side, kind, calls] = words else { return None };
-    let function = FUNCTIONS.iter().find(|function| function.name == name)?;
-    let entry = match side.as_str() {
-        "library" => function.library,
-        "rust" => function.rust,
-        "none" => measure_none,
-        _ => return None,
-    };
-    Some(sum_of_calls(black_box(entry), &inputs(function, kind)?, function.size, calls.parse().ok()?))
-}
-
-fn answer(words: &[String]) -> Option<String> {
-    match words {
-        [word] if word == "functions" => Some(FUNCTIONS.map(|function| function.name).join("\n")),
-        [word, words @ ..] if word == "recording" => recording::answer(words),
-        [word, words @ ..] if word == "units" => units::answer(words),
-        words => measure(words).map(|sum| format!("{sum:016x}")),
-    }
+    println!("{text}");
+    Some(())
 }
 
 #[no_mangle]
 pub extern "C" fn main(_argc: i32, _argv: *const *const u8) -> i32 {
     let words: Vec<String> = std::env::args().skip(1).collect();
-    match answer(&words) {
-        Some(text) => {
-            println!("{text}");
-            0
-        }
+    match run(&words) {
+        Some(()) => 0,
         None => {
-            eprintln!(
-                "usage: measure FUNCTION library|rust|none accepted|mixed CALLS | measure functions \
-                | measure recording library|rust|none FILE ROUNDS | measure units write|continue library|rust|none ROUNDS"
-            );
+            eprintln!("usage: measure rows FILE.. | count ROW library|rust|none FILE.. | time ROW FILE.. | list <FILE");
             2
         }
     }

@@ -1,30 +1,15 @@
 //! Packets: every field of the packet and of its adaptation field, read once.
 
+use crate::calls::Function;
+use crate::declarations::*;
 use crate::rng::Rng;
 use crate::sum::{ask, Given, Sum};
 use crate::values;
-use crate::Function;
 use mpeg2ts_reader::packet::{AdaptationField, AdaptationFieldError, Packet};
 use std::slice;
 
-extern "C" {
-    fn cmv_packet_try_new(buf: *const u8, len: usize) -> u32;
-    fn cmv_packet_transport_error_indicator(buf: *const u8, len: usize, value: *mut u64) -> u32;
-    fn cmv_packet_payload_unit_start_indicator(buf: *const u8, len: usize, value: *mut u64) -> u32;
-    fn cmv_packet_transport_priority(buf: *const u8, len: usize, value: *mut u64) -> u32;
-    fn cmv_packet_pid(buf: *const u8, len: usize, value: *mut u64) -> u32;
-    fn cmv_packet_continuity_counter(buf: *const u8, len: usize, value: *mut u64) -> u32;
-    fn cmv_packet_adaptation_field(buf: *const u8, len: usize, place: *mut u64, length: *mut u64) -> u32;
-    fn cmv_packet_payload(buf: *const u8, len: usize, place: *mut u64, length: *mut u64) -> u32;
-    fn cmv_adaptation_field_discontinuity_indicator(buf: *const u8, len: usize, value: *mut u64) -> u32;
-    fn cmv_adaptation_field_random_access_indicator(buf: *const u8, len: usize, value: *mut u64) -> u32;
-    fn cmv_adaptation_field_elementary_stream_priority_indicator(buf: *const u8, len: usize, value: *mut u64) -> u32;
-    fn cmv_adaptation_field_pcr(buf: *const u8, len: usize, base: *mut u64, extension: *mut u64) -> u32;
-    fn cmv_adaptation_field_opcr(buf: *const u8, len: usize, base: *mut u64, extension: *mut u64) -> u32;
-    fn cmv_adaptation_field_splice_countdown(buf: *const u8, len: usize, value: *mut u64) -> u32;
-}
-
-pub const EVERY_FIELD: Function = Function { name: "packet::every_field", library, rust, size: Packet::SIZE, make };
+pub const EVERY_FIELD: Function =
+    Function { name: "packet, every field", library, rust, count: 100_000, size: Packet::SIZE, make };
 
 // ---- The library. The pointers and lengths are those of the lent slice or of a part of it that the library gave.
 

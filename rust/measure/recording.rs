@@ -1,151 +1,89 @@
-//! The event machine over a recording: all packets of the PID that has the most.
-//!
-//! SIDE is `library` (`cmv_machine_run`), `rust` (the oracle's `consume` for each packet, with a consumer that writes the same 8
-//! bytes for each call) or `none`. Prints how many packets and events a round has, and a sum over the log and the counts, which has
-//! to be the same for the first two.
+//! The event machine over a recording: all packets of the PID that has the most. The Rust is the oracle's `consume` for each packet,
+//! with a consumer that writes the library's 8 bytes for each call.
 
-use crate::event::{self, Event, ENTRY};
-use crate::host_machine::{Advance, State, RUN};
-use crate::kept::Keeps;
+use crate::event::{Event, ENTRY};
+use crate::host_machine::{self, Advance, State};
+use crate::machine::{Machine, Takes};
 use crate::pids::by_pid;
-use mpeg2ts_reader::demultiplex::{DemuxContext, FilterChangeset, FilterRequest, NullPacketFilter, PacketFilter};
+use crate::row::{Row, Side, Work};
 use mpeg2ts_reader::packet::Packet;
-use mpeg2ts_reader::pes::{ElementaryStreamConsumer, PesHeader, PesPacketFilter};
+use std::fs;
 use std::hint::black_box;
-use std::{fs, slice};
+
+/// How many packets are taken, about: the recording is gone through more than once.
+const PACKETS: usize = 500_000;
 
 /// The bytes of a packet's events: two at most.
 const MOST: usize = 2 * ENTRY;
 
-pub fn answer(words: &[String]) -> Option<String> {
-    let [side, file, rounds] = words else { return None };
-    let entry = match side.as_str() {
-        "library" => RUN,
-        "rust" => Advance(rust_run),
-        "none" => Advance(measure_no_run),
-        _ => return None,
-    };
-    let packets = by_pid(&fs::read(file).ok()?).into_values().max_by_key(Vec::len)?;
-    let (sum, place) = sum_of_rounds(&black_box(entry), packets.clone(), rounds.parse().ok()?);
-    Some(format!("{} packets, {} events, {sum:016x}", packets.len() / Packet::SIZE, place / ENTRY))
+pub fn row(file: &str) -> Row {
+    let path = file.to_string();
+    Row::new("machine run, a packet", short(file), || Recording::read(path))
 }
 
-/// The same loop for every side: the call goes through a pointer that the compiler does not know.
-#[inline(never)]
-fn sum_of_rounds(entry: &Advance, mut packets: Vec<u8>, rounds: usize) -> (u64, usize) {
-    let mut log = vec![0; packets.len() / Packet::SIZE * MOST];
-    let mut sum = u64::MAX;
-    let mut state = State::FIRST;
-    for _ in 0..rounds {
-        state = State::FIRST;
-        let word = entry.call(&mut state, &mut packets, &mut log);
-        sum = sum.rotate_left(1) ^ u64::from(word) ^ u64::from(state.taken) << 32 ^ state.place as u64;
+/// The name of a file and of the folder that it is in.
+fn short(file: &str) -> &str {
+    file.rmatch_indices('/').nth(1).map_or(file, |(at, _)| &file[at + 1..])
+}
+
+struct Recording {
+    packets: Vec<u8>,
+    log: Vec<u8>,
+    rounds: usize,
+    /// What the last round left.
+    word: u32,
+    state: State,
+}
+
+impl Recording {
+    fn read(file: String) -> Option<Recording> {
+        let packets = by_pid(&fs::read(file).ok()?).into_values().max_by_key(Vec::len)?;
+        let count = packets.len() / Packet::SIZE;
+        let log = vec![0; count * MOST];
+        Some(Recording { packets, log, rounds: PACKETS.div_ceil(count), word: 0, state: State::FIRST })
     }
-    let entries = log.chunks_exact(ENTRY).map(|entry| u64::from_be_bytes(entry.try_into().expect("8 bytes")));
-    (entries.fold(sum, |sum, entry| sum.rotate_left(1) ^ entry), state.place)
 }
 
-/// Found by its name: its own instructions are no part of what the loop costs.
-#[no_mangle]
-#[inline(never)]
-unsafe extern "C" fn measure_no_run(
-    _phase: *mut u8,
-    _last: *mut u8,
-    _taken: *mut u32,
-    _place: *mut usize,
-    _bytes: *const u8,
-    _len: usize,
-    _log: *mut u8,
-    _log_len: usize,
-) -> u32 {
-    0
-}
-
-// ---- The Rust.
-
-/// Ends at a packet without a sync byte. The oracle can be given no state, so it begins with a new one, and keeps its phase and its
-/// counter.
-#[inline(never)]
-unsafe extern "C" fn rust_run(
-    _phase: *mut u8,
-    _last: *mut u8,
-    taken: *mut u32,
-    place: *mut usize,
-    bytes: *const u8,
-    len: usize,
-    log: *mut u8,
-    log_len: usize,
-) -> u32 {
-    let mut filter = PesPacketFilter::new(Writer);
-    let log = slice::from_raw_parts_mut(log, log_len);
-    let mut context =
-        Context { changes: FilterChangeset::default(), log, place: *place, taken: *taken, packet: bytes as usize };
-    for bytes in slice::from_raw_parts(bytes, len).chunks_exact(Packet::SIZE) {
-        let Some(packet) = Packet::try_new(bytes) else { return 2 };
-        context.packet = bytes.as_ptr() as usize;
-        filter.consume(&mut context, &packet);
-        context.taken += 1;
+impl Work for Recording {
+    fn units(&self) -> usize {
+        self.rounds * self.packets.len() / Packet::SIZE
     }
-    *taken = context.taken;
-    *place = context.place;
-    0
+
+    /// The same loop for every side: the call goes through a pointer that the compiler does not know.
+    fn run(&mut self, side: Side) {
+        let advance: Advance = black_box(side.choose(host_machine::run, rust, |_, _, _| 0));
+        for _ in 0..self.rounds {
+            self.state = State::FIRST;
+            self.word = advance(&mut self.state, &mut self.packets, &mut self.log);
+        }
+    }
+
+    fn sum(&self) -> u64 {
+        let left = u64::from(self.word) ^ u64::from(self.state.taken) << 32 ^ self.state.place as u64;
+        let entries = self.log.chunks_exact(ENTRY).map(|entry| u64::from_be_bytes(entry.try_into().expect("8 bytes")));
+        entries.fold(left, |sum, entry| sum.rotate_left(1) ^ entry)
+    }
 }
 
-struct Context<'a> {
-    changes: FilterChangeset<NullPacketFilter<Context<'a>>>,
+/// The oracle can be given no state, so it begins with a new one, and keeps its phase and its counter.
+fn rust(state: &mut State, packets: &mut [u8], log: &mut [u8]) -> u32 {
+    let mut machine = Machine::new(Entries { log, place: state.place });
+    let word = machine.run(packets);
+    state.taken = machine.taken();
+    state.place = machine.taker().place;
+    word
+}
+
+/// Writes each event as an entry of a log.
+struct Entries<'a> {
     log: &'a mut [u8],
     place: usize,
-    taken: u32,
-    /// Where the packet lies, for the places of its parts.
-    packet: usize,
 }
 
-impl Context<'_> {
+impl Takes for Entries<'_> {
     #[inline(always)]
-    fn write(&mut self, event: Event) {
-        self.log[self.place..][..ENTRY].copy_from_slice(&event.entry(self.taken));
+    fn take(&mut self, index: u32, event: Event) {
+        self.log[self.place..][..ENTRY].copy_from_slice(&event.entry(index));
         self.place += ENTRY;
-    }
-
-    #[inline(always)]
-    fn write_part(&mut self, kind: u64, part: &[u8]) {
-        let place = part.as_ptr() as usize - self.packet;
-        self.write(Event { kind, place: place as u64, length: part.len() as u64 });
-    }
-}
-
-impl<'a> DemuxContext for Context<'a> {
-    type F = NullPacketFilter<Context<'a>>;
-
-    fn filter_changeset(&mut self) -> &mut FilterChangeset<Self::F> {
-        &mut self.changes
-    }
-
-    fn construct(&mut self, _: FilterRequest<'_, '_>) -> Self::F {
-        NullPacketFilter::default()
-    }
-}
-
-struct Writer;
-
-impl ElementaryStreamConsumer<Context<'_>> for Writer {
-    fn start_stream(&mut self, context: &mut Context<'_>) {
-        context.write(Event::bare(event::START));
-    }
-
-    fn begin_packet(&mut self, context: &mut Context<'_>, header: PesHeader<'_>) {
-        context.write_part(event::BEGIN, header.kept());
-    }
-
-    fn continue_packet(&mut self, context: &mut Context<'_>, data: &[u8]) {
-        context.write_part(event::CONTINUE, data);
-    }
-
-    fn end_packet(&mut self, context: &mut Context<'_>) {
-        context.write(Event::bare(event::END));
-    }
-
-    fn continuity_error(&mut self, context: &mut Context<'_>) {
-        context.write(Event::bare(event::ERROR));
     }
 }

@@ -1,29 +1,28 @@
 //! Timestamps, read alone.
 
+use crate::calls::Function;
+use crate::declarations::{cmv_timestamp_from_bytes, cmv_timestamp_from_pts_bytes};
 use crate::rng::Rng;
-use crate::Function;
 use mpeg2ts_reader::pes::{Timestamp, TimestampError};
 use std::slice;
 
-extern "C" {
-    fn cmv_timestamp_from_pts_bytes(buf: *const u8, len: usize, value: *mut u64) -> u32;
-    fn cmv_timestamp_from_bytes(buf: *const u8, len: usize, value: *mut u64) -> u32;
-}
-
+const COUNT: usize = 1_000_000;
 const SIZE: usize = 5;
 
 pub const FROM_BYTES: Function = Function {
-    name: "timestamp::from_bytes",
+    name: "Timestamp::from_bytes",
     library: cmv_timestamp_from_bytes,
     rust: rust_from_bytes,
+    count: COUNT,
     size: SIZE,
     make,
 };
 
 pub const FROM_PTS_BYTES: Function = Function {
-    name: "timestamp::from_pts_bytes",
+    name: "Timestamp::from_pts_bytes",
     library: cmv_timestamp_from_pts_bytes,
     rust: rust_from_pts_bytes,
+    count: COUNT,
     size: SIZE,
     make,
 };
