@@ -206,7 +206,10 @@ impl Cases {
             2 => self.rng.below(SIZE),
             _ => LARGEST,
         };
-        let (packet, opened) = (self.packet(place), (self.rng.below(4) > 0).into());
+        let (mut packet, opened) = (self.packet(place), (self.rng.below(4) > 0).into());
+        if self.rng.below(32) == 0 {
+            packet[0] = self.rng.next() as u8;
+        }
         let event = Event { kind, place: place as u64, length: length as u64 };
         self.take(Gathering { opened, count, lies }, &packet, event, room);
     }

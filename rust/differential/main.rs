@@ -1,6 +1,7 @@
 //! The library against the crate that it ports, the oracle, in one process.
 //!
-//!     differential [--count N] [--seed S] [--only MODULE]     compares; N random answers a module
+//!     differential [--count N | --times K] [--seed S] [--only MODULE]
+//!                                  compares; N random answers a module, or K times as many as each module has set
 //!     differential record DIR      writes a fixed sample of the oracle's answers to DIR/stdin and DIR/stdout
 //!     differential stream FILE..   compares on every packet of transport streams
 //!     differential events FILE..   compares the events of transport streams, a machine for each PID, and of damaged copies
@@ -74,12 +75,13 @@ const MODULES: [Module; 9] = [
 ];
 
 const SEED: u64 = 1;
-const USAGE: &str = "usage: differential [--count N] [--seed S] [--only MODULE] | differential record DIR \
+const USAGE: &str = "usage: differential [--count N | --times K] [--seed S] [--only MODULE] | differential record DIR \
     | differential stream FILE.. | differential events FILE.. | differential gather FILE.. | differential fields FILE";
 
-/// What is compared: with `count` random answers a module, or as many as the module has set.
+/// What is compared: with `count` random answers a module, or `times` as many as the module has set.
 struct Options {
     count: Option<u64>,
+    times: u64,
     seed: u64,
     only: Option<&'static str>,
 }
@@ -110,11 +112,12 @@ fn run(words: &[String]) -> Option<bool> {
 }
 
 fn options(words: &[String]) -> Option<Options> {
-    let mut options = Options { count: None, seed: SEED, only: None };
+    let mut options = Options { count: None, times: 1, seed: SEED, only: None };
     for pair in words.chunks(2) {
         let [option, value] = pair else { return None };
         match option.as_str() {
             "--count" => options.count = Some(value.parse().ok()?),
+            "--times" => options.times = value.parse().ok()?,
             "--seed" => options.seed = value.parse().ok()?,
             "--only" => options.only = Some(MODULES.iter().find(|module| module.name == value)?.name),
             _ => return None,
@@ -135,7 +138,7 @@ fn compare(options: &Options) -> bool {
 /// Compares one module, and prints a line for each function and one for all.
 fn compare_module(module: &Module, options: &Options) -> Vec<Tally> {
     let began = Instant::now();
-    let plan = Plan { count: options.count.unwrap_or(module.count), seed: options.seed };
+    let plan = Plan { count: options.count.unwrap_or(module.count * options.times), seed: options.seed };
     println!("{}: {} random answers, beside what is always compared", module.name, grouped(plan.count));
     let tallies = (module.compare)(&plan);
     report(module.name, began, &tallies);
