@@ -1,15 +1,16 @@
 -- The crate's theorems that belong to no one function: one answer only, and what the fourth byte says of the packet.
 -- Assumes nothing.
-use mathlib.Core.Path.{_≡_, refl}
+use mathlib.Core.Path.{_≡_, refl, sym, _∙_}
 use mathlib.Core.Bool.{true, false}
-use mathlib.Core.List.{List}
+use mathlib.Core.List.{List, [], _∷_}
 use Prim.Native.Nat.{ℕ}
 use lib.ListN.{getD}
 use lib.Dec.{eqb}
 use Rattle.bits.specs.Answer.{Answer, pick}
-use Rattle.bits.specs.Field.{bit}
+use Rattle.bits.specs.Field.{bit, field}
+use Rattle.bits.proofs.Fields.{in-byte}
 use Rattle.bits.proofs.Tests.{one-answer}
-use Rattle.control.specs.Control.{hasAdaptationField, hasPayload}
+use Rattle.control.specs.Control.{hasAdaptationField, hasPayload, scrambling}
 use Rattle.packet.specs.declared.Tried.{Tried}
 use Rattle.packet.specs.declared.FlagRead.{FlagRead}
 use Rattle.packet.specs.declared.PidRead.{PidRead}
@@ -125,3 +126,7 @@ control-payload xs = refl
 pub control-adaptation : (xs : List ℕ) → hasAdaptationField (getD xs 3 0) ≡ adaptationFlag xs
 unfolding hasAdaptationField adaptationFlag bit
 control-adaptation xs = refl
+
+pub control-scrambling : (xs : List ℕ) → scrambling (getD xs 3 0) ≡ field xs 24 2
+unfolding scrambling
+control-scrambling xs = in-byte (getD xs 3 0 ∷ []) 0 0 2 6 refl ∙ sym (in-byte xs 3 0 2 6 refl)
