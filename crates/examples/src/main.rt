@@ -1,7 +1,18 @@
-// Runs the examples of the request that are not proved, and prints a line for each. The file stdout has what must come out.
+// Runs the examples of the request that are not proved, the object `PesHeader` and the steps over a lent state, and prints a line for each
+// answer. README.md says what the numbers of a line are, and the file stdout has what must come out.
+mod gathering;
+mod header_object;
+mod headers;
+mod lent_state;
+mod machines;
+mod packets;
 mod show;
 mod timestamps;
 
 fn main() {
     timestamps::run();
+    headers::run();
+    let stream = packets::stream();
+    machines::run(&stream);
+    gathering::run(&stream);
 }

@@ -6,20 +6,13 @@ use timestamp::TimestampRead;
 
 fn shown(r: TimestampRead) {
     match r {
-        TimestampRead::Done(t) => {
-            show::number(0);
-            show::number(t.value());
-        }
+        TimestampRead::Done(t) => show::two(0, t.value()),
         TimestampRead::WrongLength => show::number(1),
         TimestampRead::IncorrectPrefixBits { expected, actual } => {
             show::number(13);
-            show::number(wide(expected));
-            show::number(wide(actual));
+            show::two(wide(expected), wide(actual));
         }
-        TimestampRead::MarkerBitNotSet { bit_number } => {
-            show::number(12);
-            show::number(wide(bit_number));
-        }
+        TimestampRead::MarkerBitNotSet { bit_number } => show::two(12, wide(bit_number)),
     }
     show::end();
 }

@@ -1,0 +1,46 @@
+-- `pes_packet_length` of src/header_object.rt: the walk of proofs/Object.antt, at `PesHeader::pes_packet_length`.
+-- Assumes nothing.
+use mathlib.Core.Path.{_≡_}
+use mathlib.Core.List.{List}
+use Prim.Native.Nat.{ℕ}
+use contract.Lifetimes.{Lfts}
+use contract.Running.{givenOf, tables, tablesOf}
+use denote.Enum.Laws as EL
+use denote.RattleType.{RattleType}
+use denote.Ref.{RefT, now}
+use denote.Triple.Spec.{tripleOf}
+use denote.Triple.Table.{entered, cited}
+use Rattle.pes.specs.Head.{givenLength, readLength}
+use Rattle.pes.proofs.LengthRead as E
+use Rattle.pes.proofs.LengthRead.Laws as E′
+use Rattle.pes_header.proofs.PesHeader.from_bytes.Symbol as new-def
+use Rattle.pes_header.proofs.PesHeader.from_bytes.Symbol.{name as #new}
+use Rattle.pes_header.proofs.PesHeader.from_bytes.Met as new-thm
+use Rattle.pes_header.proofs.PesHeader.pes_packet_length.Symbol as reader-def
+use Rattle.pes_header.proofs.PesHeader.pes_packet_length.Symbol.{name as #reader}
+use Rattle.pes_header.proofs.PesHeader.pes_packet_length.Met as reader-thm
+use Rattle.examples.proofs.Object.{New, Reader, asked}
+use Rattle.examples.proofs.header_object.pes_packet_length.Key.{name as #self}
+use Rattle.examples.proofs.header_object.pes_packet_length as self
+use Rattle.examples.proofs.header_object.pes_packet_length.Statement as stated
+use Rattle.examples.proofs.header_object.pes_packet_length.Code as code
+
+abbrev F : Lfts 1 → RattleType
+F = λ κs. E.the-row
+
+-- what the reader says of its result
+abbrev Fact : (κs : Lfts 1) → RefT (List ℕ) → F κs .Denot → Type 0
+Fact κs x r = givenLength r ≡ readLength (now x)
+
+pub pes-packet-length-spec : {M : Type 1} → stated.statement M
+unfolding code.routine tablesOf
+pes-packet-length-spec 𝓤 H 𝓜 𝓖 𝓡 =
+    entered 𝓤 H (tripleOf 𝓤 H (𝓖 .A) self.signature (self.spec 𝓤 H (𝓖 .A) (𝓜 .mem) (𝓡 .run)))
+    (tables 𝓤 H 𝓜 𝓡 code.env .C) (tables 𝓤 H 𝓜 𝓡 code.env .Λ) #self code.function (code.unfolded 𝓤 H 𝓜 𝓡)
+    (asked F Fact 𝓤 H (𝓖 .A) (𝓜 .mem) (𝓡 .run) (givenOf 𝓤 H 𝓜 𝓖) E′.mir
+    (λ κ r u is. EL.lawful E.the-type E′.the-laws 𝓤 H (𝓖 .A) (givenOf 𝓤 H 𝓜 𝓖) tt .typed r _ is .0)
+    #reader (tablesOf 𝓤 H 𝓜 (tables 𝓤 H 𝓜 𝓡 code.env))
+    (cited 𝓤 H (New F Fact 𝓤 H (𝓖 .A) (𝓜 .mem) (𝓡 .run)) 𝓜 𝓡 code.env #new new-def.routine
+    code.calls-pes-header·PesHeader·from-bytes (new-thm.met 𝓤 H 𝓜 𝓖 𝓡))
+    (cited 𝓤 H (Reader F Fact 𝓤 H (𝓖 .A) (𝓜 .mem) (𝓡 .run)) 𝓜 𝓡 code.env #reader reader-def.routine
+    code.calls-pes-header·PesHeader·pes-packet-length (reader-thm.met 𝓤 H 𝓜 𝓖 𝓡)))

@@ -1,0 +1,34 @@
+// The steps over a lent state. A reference to a struct is made here alone: each function lends a local of its own, and returns it as it
+// was left.
+use gather::Gathered;
+use gather::Gathering;
+use log::Event;
+use machine::Machine;
+use machine::Stepped;
+
+pub fn step(m: Machine, packet: &[u8], log: &mut [u8]) -> Stepped {
+    let mut own = m;
+    let verdict = lent::step_lent(&mut own, packet, log);
+    Stepped {
+        verdict,
+        machine: own,
+    }
+}
+
+pub fn run(m: Machine, bytes: &[u8], log: &mut [u8]) -> Stepped {
+    let mut own = m;
+    let verdict = lent::run_lent(&mut own, bytes, log);
+    Stepped {
+        verdict,
+        machine: own,
+    }
+}
+
+pub fn gather(g: Gathering, packet: &[u8], event: Event, store: &mut [u8]) -> Gathered {
+    let mut own = g;
+    let verdict = lent::gather_lent(&mut own, packet, event, store);
+    Gathered {
+        verdict,
+        gathering: own,
+    }
+}

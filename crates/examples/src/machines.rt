@@ -1,0 +1,118 @@
+// The machine over a lent state: a line for each call, with its number and the fields of the state after it, then each entry of the log.
+use crate::lent_state;
+use crate::packets;
+use crate::show;
+use bits::wide;
+use log::EntryRead;
+use log::Event;
+use machine::Last;
+use machine::Machine;
+use machine::Phase;
+use machine::Stepped;
+use machine::Verdict;
+
+// Room for one entry more than the example has.
+pub const ENTRIES: usize = 6;
+
+pub const LOG: usize = 48;
+
+// ---- lines
+
+fn number(v: Verdict) {
+    match v {
+        Verdict::Done => show::number(0),
+        Verdict::WrongLength => show::number(1),
+        Verdict::NoSync => show::number(2),
+        Verdict::OutOfRange => show::number(14),
+        Verdict::IndexFull => show::number(16),
+        Verdict::LogFull => show::number(15),
+    }
+}
+
+fn phase(p: Phase) {
+    match p {
+        Phase::Begin => show::number(0),
+        Phase::Started => show::number(1),
+        Phase::IgnoreRest => show::number(2),
+    }
+}
+
+fn last(l: Last) {
+    match l {
+        Last::Nothing => show::number(255),
+        Last::At(counter) => show::number(wide(counter)),
+    }
+}
+
+pub fn event(e: Event) {
+    show::two(wide(e.kind), e.index as u64);
+    show::two(wide(e.place), wide(e.length));
+}
+
+// The entry at a place of the log, if there is one: bytes of 0 are none.
+fn entry(log: &[u8; LOG], at: usize) {
+    if let EntryRead::Done(e) = log::entry_at(log, at) {
+        show::comma();
+        event(e);
+    }
+}
+
+fn entries(log: &[u8; LOG]) {
+    for i in 0..ENTRIES {
+        entry(log, i * 8);
+    }
+}
+
+fn line(call: &[u8], s: Stepped, log: &[u8; LOG]) {
+    let v = s.verdict;
+    let m = s.machine;
+    let p = m.phase;
+    let l = m.last;
+    show::words(call);
+    number(v);
+    phase(p);
+    last(l);
+    show::two(m.taken as u64, m.place as u64);
+    entries(log);
+    show::end();
+}
+
+// ---- calls
+
+fn step(call: &[u8], m: Machine, packet: &[u8], log: &mut [u8; LOG]) -> Machine {
+    let s = lent_state::step(m, packet, log);
+    line(call, s, log);
+    s.machine
+}
+
+// The four packets, one a call.
+fn steps(call: &[u8], m: Machine, stream: &[u8]) {
+    let mut log = [0u8; LOG];
+    let mut state = m;
+    for i in 0..4 {
+        state = step(call, state, packets::packet(stream, i), &mut log);
+    }
+}
+
+// Packets, all by one call.
+fn all(call: &[u8], m: Machine, bytes: &[u8]) {
+    let mut log = [0u8; LOG];
+    let s = lent_state::run(m, bytes, &mut log);
+    line(call, s, &log);
+}
+
+// A state that cannot be: no packet has such a counter.
+fn counter_16() -> Machine {
+    Machine {
+        phase: Phase::Started,
+        last: Last::At(16),
+        taken: 7,
+        place: 8,
+    }
+}
+
+pub fn run(stream: &[u8]) {
+    steps(b"step_lent", Machine::new(), stream);
+    steps(b"step_lent counter_16", counter_16(), stream);
+    all(b"run_lent", Machine::new(), packets::three(stream));
+}
