@@ -9,10 +9,10 @@ use types.Run.{OneOf, miss}
 use denote.Enum.Declared.{tagOf}
 use lib.ListN.{length, getD, take, drop, length-drop}
 use lib.Dec.{eqb, leb, ltb}
-use borrow.Author.Tests.{lt-ltb, le-ltb, le-leb, lt-leb, leb-true, leb-false, eq-eqb, ne-eqb, eqb-true}
+use borrow.Author.Tests.{lt-ltb, le-ltb, le-leb, lt-leb, leb-true, leb-false, eq-eqb, ne-eqb, eqb-true, eqb-false}
 use Rattle.bits.specs.Answer.{Answer, answer, pick, truth, partAt, placedAt, Within}
 use Rattle.bits.specs.Field.{field}
-use Rattle.bits.proofs.Parts.{part-rest, part-in, part-length, part-of-part, part-refused, part-done}
+use Rattle.bits.proofs.Parts.{part-rest, part-in, part-cut, part-length, part-of-part, part-refused, part-done, placed-none, placed-out}
 use Rattle.pes.specs.declared.ContentsRead.{ContentsRead}
 use Rattle.pes.specs.Stream.{parsedId}
 use Rattle.pes.specs.Head.{headed, idOf, givenContents, readContents, contentsPart}
@@ -148,6 +148,15 @@ module _ (e : Event) where
       go true false c f h = let z : _≡_ {A = ℕ} 0 1 = cc in absurd (omega arith)
       go false b c f h = let z : _≡_ {A = ℕ} 0 1 = cc in absurd (omega arith)
 
+  pub kind-known : eventGood e ≡ true → (1 ≤ e .kind) × (e .kind ≤ 5)
+  unfolding eventGood
+  kind-known = go (leb 1 (e .kind)) (leb (e .kind) 5) (leb (e .place + e .length) 188) (leb-true 1 (e .kind)) (leb-true (e .kind) 5)
+    where
+      go : {A B : Type 0} (a b c : Bool) → (a ≡ true → A) → (b ≡ true → B) → pick a (pick b c false) false ≡ true → A × B
+      go true true c f g h = (f refl, g refl)
+      go true false c f g h = let z : _≡_ {A = ℕ} 0 1 = cc in absurd (omega arith)
+      go false b c f g h = let z : _≡_ {A = ℕ} 0 1 = cc in absurd (omega arith)
+
 -- a bound moved to the other side
 moved-bound : (a n b : ℕ) → a ≤ b → leb n (b - a) ≡ leb (a + n) b
 moved-bound a n b h = go (leb n (b - a)) refl
@@ -250,11 +259,23 @@ module _ (g : Gathering) (k n a : ℕ) where
   unfolding moved
   moved-break h = simp (ne-eqb k 1 (h .0), ne-eqb k 2 (h .1), ne-eqb k 3 (h .2), ne-eqb k 4 (h .3))
 
+  pub moved-open : (k ≡ 3) × (g .opened ≡ true) → gathering true n Store ≡ moved g k n a
+  moved-open h = ap (λ (o : Bool). gathering o n Store) (sym (h .1)) ∙ moved-continue (h .0)
+
+  -- an end, and a continue where no unit is open
+  pub moved-closed : (3 ≤ k) × (k ≤ 4) → (k ≡ 3 → g .opened ≡ false) → gathering false n Store ≡ moved g k n a
+  moved-closed h f = go (eqb k 3) refl
+    where
+      go : (t : Bool) → eqb k 3 ≡ t → gathering false n Store ≡ moved g k n a
+      go true e = let q = eqb-true k 3 e in ap (λ (o : Bool). gathering o n Store) (sym (f q)) ∙ moved-continue q
+      go false e = moved-end (omega (arith, eqb-false k 3 e))
+
 -- ---- the bytes that an event adds
 
--- a place and a length in the packet are those of the bytes that an event adds
-abbrev Adds : Gathering → List ℕ → Event → ℕ → ℕ → Type 0
-Adds g p e a n = (partAt a n p ≡ added g p e) × (a + n ≤ 188) × (e .kind ≡ 2 → a ≡ e .place + ownPlace (eventBytes p e))
+-- so many bytes stay, and a place and a length in the packet are those of the bytes that an event adds
+abbrev Adds : Gathering → List ℕ → Event → ℕ → ℕ → ℕ → Type 0
+Adds g p e k a n =
+    (k ≡ kept g e) × (partAt a n p ≡ added g p e) × (a + n ≤ 188) × (e .kind ≡ 2 → a ≡ e .place + ownPlace (eventBytes p e))
 
 module _ (g : Gathering) (e : Event) where
   pub kept-begin : e .kind ≡ 2 → kept g e ≡ 0
@@ -269,6 +290,18 @@ module _ (g : Gathering) (e : Event) where
       go : (t : Bool) → pick t 0 (g .count) ≤ g .count
       go true = omega arith
       go false = omega arith
+
+-- whether it is a continue of an open unit
+module _ (k : ℕ) (o : Bool) where
+  pub extends-true : pick (eqb k 3) o false ≡ true → (k ≡ 3) × (o ≡ true)
+  extends-true = go (eqb k 3) (eqb-true k 3)
+    where
+      go : {A : Type 0} (t : Bool) → (t ≡ true → A) → pick t o false ≡ true → A × (o ≡ true)
+      go true f h = (f refl, h)
+      go false f h = let z : _≡_ {A = ℕ} 0 1 = cc in absurd (omega arith)
+
+  pub extends-false : pick (eqb k 3) o false ≡ false → k ≡ 3 → o ≡ false
+  extends-false z e = rw (eq-eqb k 3 e) at z
 
 -- the bytes that an event names are a part of its packet
 pub event-part : (p : List ℕ) (e : Event) → length p ≡ 188 → e .place + e .length ≤ 188 → eventBytes p e ≡ partAt (e .place) (e .length) p
@@ -292,30 +325,38 @@ module _ (g : Gathering) (p : List ℕ) (e : Event) where
   unfolding added
   added-none h k = simp (ne-eqb (e .kind) 2 h, ne-eqb (e .kind) 3 k)
 
-  nothing : [] ≡ partAt 0 0 p
-  nothing = part-in 0 0 p (omega arith)
+  -- neither a begin nor a continue of an open unit
+  pub added-rest : (e .kind ≡ 2 → ⊥) → pick (eqb (e .kind) 3) (g .opened) false ≡ false → [] ≡ added g p e
+  added-rest b z = go (eqb (e .kind) 3) refl
+    where
+      go : (t : Bool) → eqb (e .kind) 3 ≡ t → [] ≡ added g p e
+      go true f = let k = eqb-true (e .kind) 3 f in added-closed k (extends-false (e .kind) (g .opened) z k)
+      go false f = added-none b (eqb-false (e .kind) 3 f)
 
   module _ (l : length p ≡ 188) (i : eventGood e ≡ true) where
-    pub adds-begin : (xs : List ℕ) (a n : ℕ) → e .kind ≡ 2 → xs ≡ partAt (e .place) (e .length) p
-        → Own xs a n
-        → Adds g p e (e .place + a) n
-    adds-begin xs a n k x h =
+    -- as the borrow checker has the bytes of a begin
+    pub adds-begin : (a n : ℕ) → e .kind ≡ 2 → Own (take (e .place + e .length - e .place) (drop (e .place) p)) a n
+        → Adds g p e 0 (e .place + a) n
+    adds-begin a n k h =
+        let xs = take (e .place + e .length - e .place) (drop (e .place) p) in
+        let x : xs ≡ partAt (e .place) (e .length) p = part-cut (e .place) (e .length) p (omega (arith, part-inside e i)) in
         let f : xs ≡ eventBytes p e = x ∙ sym (event-part p e l (part-inside e i)) in
         let m : length xs ≡ e .length = rw x (part-length (e .place) (e .length) p (omega (arith, part-inside e i))) in
         let b : partAt a n xs ≡ added g p e = h .1 ∙ (ap ownBytes f ∙ added-begin k) in (
+          sym (kept-begin g e k),
           sym (part-of-part (e .place) (e .length) a n p (omega (arith, part-inside e i)) (omega arith)) ∙ (ap (partAt a n) (sym x) ∙ b),
           omega (arith, part-inside e i),
           λ z. ap (λ (t : ℕ). e .place + t) (h .0 ∙ ap ownPlace f),
         )
 
-    pub adds-open : e .kind ≡ 3 → g .opened ≡ true → Adds g p e (e .place) (e .length)
-    adds-open k o = (sym (event-part p e l (part-inside e i)) ∙ added-open k o, part-inside e i, λ z. absurd (omega arith))
-
-  pub adds-closed : e .kind ≡ 3 → g .opened ≡ false → Adds g p e 0 0
-  adds-closed k o = (sym nothing ∙ added-closed k o, omega arith, λ z. absurd (omega arith))
-
-  pub adds-none : (e .kind ≡ 2 → ⊥) → (e .kind ≡ 3 → ⊥) → Adds g p e 0 0
-  adds-none h k = (sym nothing ∙ added-none h k, omega arith, λ z. absurd (h z))
+    pub adds-open : (e .kind ≡ 3) × (g .opened ≡ true) → Adds g p e (g .count) (e .place) (e .length)
+    adds-open h =
+        let k : e .kind ≡ 3 = h .0 in (
+          sym (kept-other g e (λ z. omega arith)),
+          sym (event-part p e l (part-inside e i)) ∙ added-open k (h .1),
+          part-inside e i,
+          λ z. absurd (omega arith),
+        )
 
 -- ---- a call
 
@@ -400,17 +441,38 @@ module _ (g : Gathering) (p : List ℕ) (e : Event) (s : List ℕ) where
   unfolding gatherOf storeOf
   taken g′ s′ z f k = simp z (ap (outcome 0) f, k)
 
-  -- the same as the code has it: bytes that are kept, and the part that is added
-  module _ (h : Possible g p e s) (k a n : ℕ) (f : k ≡ kept g e) (d : Adds g p e a n) where
-    added-length : length (added g p e) ≡ n
-    added-length = ap length (sym (d .0)) ∙ part-length a n p (omega arith)
+  -- the same as the code has it: an event that adds nothing
+  pub apply-none : Possible g p e s → (e .kind ≡ 2 → ⊥) → [] ≡ added g p e → (o : Outcome) (g′ : Gathering) → o ≡ outcome 0 g′
+      → g′ ≡ moved g (e .kind) (g .count) 0
+      → Meets g p e s o s
+  apply-none h b j o g′ y m =
+      let l : g .count ≤ length s = state-inside g (length s) (h .3) .0 in
+      let c : kept g e + length (added g p e) ≡ g .count = rw (← j) (omega (arith, kept-other g e b)) in
+      let n = ap (λ (n : ℕ). moved g (e .kind) n 0) (sym c) ∙ moved-next 0 (λ z. absurd (b z)) in
+      let t = taken g′ s (number-done h (omega arith)) (m ∙ n) (rw (← j) (placed-none s (kept g e))) in
+      (y ∙ t .0, t .1)
 
-    pub apply-full : (g′ : Gathering) → g′ ≡ fresh → length s - k < n → Meets g p e s (outcome 20 g′) s
-    apply-full g′ i j = rw i (full h (omega (arith, added-length, kept-inside h)))
+  -- bytes that are kept and a part that is added, where there is room for it
+  module _ (h : Possible g p e s) (k a n : ℕ) (d : Adds g p e k a n) (xs s′ : List ℕ) (x : xs ≡ partAt a n p) (b : Bool)
+      (r : (b ≡ leb (k + length xs) (length s)) × (s′ ≡ placedAt s k xs)) where
+    part-size : length xs ≡ n
+    part-size = ap length x ∙ part-length a n p (omega arith)
 
-    pub apply-done : (g′ : Gathering) (xs s′ : List ℕ) → n ≤ length s - k → xs ≡ partAt a n p → s′ ≡ placedAt s k xs
-        → g′ ≡ moved g (e .kind) (k + n) a
-        → Meets g p e s (outcome 0 g′) s′
-    apply-done g′ xs s′ j x y m =
-        taken g′ s′ (number-done h (omega (arith, added-length, kept-inside h)))
-        (m ∙ (rw (f, ← added-length) (moved-next a (d .2)))) (y ∙ rw (f, x, d .0))
+    added-size : length (added g p e) ≡ n
+    added-size = ap length (sym (d .1)) ∙ part-length a n p (omega arith)
+
+    pub room : b ≡ true → k + n ≤ length s
+    room z = omega (arith, part-size, leb-true (k + length xs) (length s) (sym (r .0) ∙ z))
+
+    pub apply-full : (o : Outcome) → o ≡ outcome 20 fresh → b ≡ false → Meets g p e s o s′
+    apply-full o i z =
+        let t : length s < k + length xs = leb-false (k + length xs) (length s) (sym (r .0) ∙ z) in
+        let m = full h (omega (arith, added-size, part-size)) in
+        (i ∙ m .0, r .1 ∙ (sym (placed-out s k xs t) ∙ m .1))
+
+    pub apply-done : (o : Outcome) (g′ : Gathering) (c : ℕ) → o ≡ outcome 0 g′ → b ≡ true → c ≡ k + n → g′ ≡ moved g (e .kind) c a
+        → Meets g p e s o s′
+    apply-done o g′ c y z i m =
+        let n : moved g (e .kind) c a ≡ next g p e = rw (i, d .0, ← added-size) (moved-next a (d .3)) in
+        let t = taken g′ s′ (number-done h (omega (arith, added-size, room z))) (m ∙ n) (r .1 ∙ rw (d .0, x, d .1)) in
+        (y ∙ t .0, t .1)

@@ -1,15 +1,15 @@
 // The gathering store: the bytes of a unit, event by event.
 ghost use mathlib.Core.Path.{_≡_};
-ghost use mathlib.Core.Bool.{true, false};
+ghost use mathlib.Core.Bool.{false};
 ghost use Prim.Native.Nat.{_+_, _≤_};
-ghost use lib.Dec.{eqb};
+ghost use lib.Dec.{eqb, leb};
 ghost use lib.ListN.{length};
-ghost use Rattle.bits.specs.Answer.{pick, partAt};
-ghost use Rattle.log.specs.Entry.{beginPacket};
-ghost use Rattle.gather.specs.Belongs.{eventBytes, ownPlace, ownBytes};
-ghost use Rattle.gather.specs.Gather.{gathering, fresh, eventGood, inPacket, stateGood, added, Possible, moved};
-ghost use Rattle.gather.specs.Gather.{given, gatherOf, storeOf, readOf, givenHeld, bytesOf};
-use bits::copy_at;
+ghost use Rattle.bits.specs.Answer.{pick, partAt, placedAt};
+ghost use Rattle.bits.specs.Numbers.{done, storeFull};
+ghost use Rattle.log.specs.Entry.{beginPacket, continuePacket};
+ghost use Rattle.gather.specs.Belongs.{ownPlace, ownBytes};
+ghost use Rattle.gather.specs.Gather.{gathering, fresh, eventGood, inPacket, stateGood, Possible, moved};
+ghost use Rattle.gather.specs.Gather.{outcome, given, gatherOf, storeOf, readOf, givenHeld, bytesOf};
 use bits::part;
 use contents::PartRead;
 use log::Event;
@@ -68,8 +68,6 @@ const START_STREAM: u8 = 1;
 const BEGIN_PACKET: u8 = 2;
 
 const CONTINUE_PACKET: u8 = 3;
-
-const END_PACKET: u8 = 4;
 
 const CONTINUITY_ERROR: u8 = 5;
 
@@ -156,44 +154,6 @@ fn state_good(g: Gathering, room: usize) -> bool
 
 // ---- what an event does
 
-// How many bytes stay before those that the event adds: a begin opens a unit anew.
-fn keeps(g: Gathering, kind: u8) -> usize
-    ensures { λ r. ⌜ r ≡ pick (eqb kind beginPacket) 0 (g .count) ⌝ }
-{
-    if kind == BEGIN_PACKET {
-        return 0;
-    }
-    g.count
-}
-
-// Where in the packet the bytes stand that the event adds.
-fn adds(g: Gathering, packet: &[u8], event: Event) -> Part
-    requires { ⌜ (length (now packet) ≡ 188) × (eventGood event ≡ true) ⌝ }
-    ensures { λ r. ⌜ (partAt (r .place) (r .length) (now (packet .entry)) ≡ added g (now (packet .entry)) event)
-        × (r .place + r .length ≤ 188)
-        × (event .kind ≡ beginPacket → r .place ≡ event .place + ownPlace (eventBytes (now (packet .entry)) event)) ⌝ }
-{
-    let place = event.place as usize;
-    let length = event.length as usize;
-    if event.kind == BEGIN_PACKET {
-        let own = belongs(part(packet, place, length));
-        return Part {
-            place: place + own.place,
-            length: own.length,
-        };
-    }
-    if event.kind == CONTINUE_PACKET {
-        let opened = g.opened;
-        if opened {
-            return Part { place, length };
-        }
-    }
-    Part {
-        place: 0,
-        length: 0,
-    }
-}
-
 // No open unit, and so many bytes of the last one.
 fn closed(count: usize) -> Gathering
     ensures { λ r. ⌜ r ≡ gathering false count Lies.Store ⌝ }
@@ -205,31 +165,72 @@ fn closed(count: usize) -> Gathering
     }
 }
 
-// The state after it, with so many bytes in the unit, of which a begin's stand at a place of the packet.
-fn moves(g: Gathering, kind: u8, count: usize, place: usize) -> Gathering
-    ensures { λ r. ⌜ r ≡ moved g kind count place ⌝ }
+// The state after an event that adds nothing: any but a begin, and a continue only where no unit is open.
+fn rests(g: Gathering, kind: u8) -> Gathering
+    requires { ⌜ (1 ≤ kind) × (kind ≤ 5) × (kind ≡ beginPacket → ⊥) × (kind ≡ continuePacket → g .opened ≡ false) ⌝ }
+    ensures { λ r. ⌜ r ≡ moved g kind (g .count) 0 ⌝ }
 {
     if kind == START_STREAM {
         return g;
     }
-    if kind == BEGIN_PACKET {
-        return Gathering {
-            opened: true,
-            count,
-            lies: Lies::Packet(place),
-        };
+    if kind == CONTINUITY_ERROR {
+        return closed(0);
     }
-    if kind == CONTINUE_PACKET {
-        return Gathering {
-            opened: g.opened,
-            count,
-            lies: Lies::Store,
-        };
+    closed(g.count)
+}
+
+// Bytes of a packet into the store behind those that stay, and whether there was room for them. For the compiler two slices of a
+// caller may be one memory, which it would copy in small pieces: by way of an array of its own it is one move.
+fn appends(from: &[u8], store: &mut [u8], kept: usize) -> bool
+    requires { ⌜ (length (now from) ≤ 188) × (kept ≤ length (now store)) ⌝ }
+    ensures { λ r. ⌜ (r ≡ leb (kept + length (now (from .entry))) (length (now (store .entry))))
+        × (now (store .exit) ≡ placedAt (now (store .entry)) kept (now (from .entry))) ⌝ }
+{
+    if store.len() - kept < from.len() {
+        return false;
     }
-    if kind == END_PACKET {
-        return closed(count);
+    let mut image = [0u8; 188];
+    let mut i = 0;
+    while i < from.len() {
+        image[i] = from[i];
+        i += 1;
     }
-    closed(0)
+    let mut j = 0;
+    while j < from.len() {
+        store[kept + j] = image[j];
+        j += 1;
+    }
+    true
+}
+
+// Whether an event of a kind adds all the bytes that it names: a continue where a unit is open.
+fn extends(g: Gathering, kind: u8) -> bool
+    ensures { λ r. ⌜ r ≡ pick (eqb kind continuePacket) (g .opened) false ⌝ }
+{
+    if kind != CONTINUE_PACKET {
+        return false;
+    }
+    g.opened
+}
+
+// On 20 the unit counts no bytes and is closed.
+fn full() -> Gathered
+    ensures { λ r. ⌜ given r ≡ outcome storeFull fresh ⌝ }
+{
+    Gathered {
+        verdict: Verdict::StoreFull,
+        gathering: closed(0),
+    }
+}
+
+// An event that was taken, and the state after it.
+fn accepted(gathering: Gathering) -> Gathered
+    ensures { λ r. ⌜ given r ≡ outcome done gathering ⌝ }
+{
+    Gathered {
+        verdict: Verdict::Done,
+        gathering,
+    }
 }
 
 // An event that can be: 20 is what is left to refuse it.
@@ -239,22 +240,35 @@ fn apply(g: Gathering, packet: &[u8], event: Event, store: &mut [u8]) -> Gathere
         × (now (store .exit) ≡ storeOf g (now (packet .entry)) event (now (store .entry))) ⌝ }
 {
     let kind = event.kind;
-    let kept = keeps(g, kind);
-    let added = adds(g, packet, event);
-    let place = added.place;
-    let length = added.length;
-    if store.len() - kept < length {
-        return Gathered {
-            verdict: Verdict::StoreFull,
-            gathering: closed(0),
-        };
+    let place = event.place as usize;
+    let end = place + event.length as usize;
+    if extends(g, kind) {
+        let kept = g.count;
+        if !appends(&packet[place..end], store, kept) {
+            return full();
+        }
+        let count = kept + event.length as usize;
+        return accepted(Gathering {
+            opened: true,
+            count,
+            lies: Lies::Store,
+        });
     }
-    let count = kept + length;
-    copy_at(part(packet, place, length), store, kept);
-    Gathered {
-        verdict: Verdict::Done,
-        gathering: moves(g, kind, count, place),
+    if kind == BEGIN_PACKET {
+        let own = belongs(&packet[place..end]);
+        let at = place + own.place;
+        let count = own.length;
+        let last = at + count;
+        if !appends(&packet[at..last], store, 0) {
+            return full();
+        }
+        return accepted(Gathering {
+            opened: true,
+            count,
+            lies: Lies::Packet(at),
+        });
     }
+    accepted(rests(g, kind))
 }
 
 // One event of the packet.
