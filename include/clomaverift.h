@@ -1,5 +1,5 @@
-/* Clomaverift: the header reader of a transport stream analyser, proved. The functions of libhost.a and libhost_streams.a, for C and C++.
-   Made by tools/header from the sources of the crates host and host_streams: not to be edited.
+/* Clomaverift: the header reader of a transport stream analyser, proved. The functions of libhost.a, libhost_streams.a and libhost_whole.a,
+   for C and C++. Made by tools/header from the sources of the crates host, host_streams and host_whole: not to be edited.
 
    A function returns one word: the number of its answer and, on a refusal, 256 times the first and 65,536 times the second number named
    with it. On 0, and only then, it writes its out numbers, unless its comment says otherwise. A truth value is 0 or 1. A part of lent bytes
@@ -307,6 +307,25 @@ uint32_t cmv_write(uint16_t pid, uint8_t counter, uint8_t id, uint8_t bounded, u
     uint8_t original, uint8_t times, uint64_t pts, uint64_t dts, uint8_t escr_there, uint64_t escr_base, uint16_t escr_extension,
     uint8_t rate_there, uint32_t rate, uint8_t trick_there, uint8_t trick, uint8_t copy_there, uint8_t copy, uint8_t crc_there,
     uint16_t crc, const uint8_t *payload, size_t payload_len, uint8_t *out, size_t out_len, uint64_t *count);
+
+/* ---- Heads of PES packets at one call. */
+
+/* kind and low of the stream id, as cmv_pes_header_stream_id gives them; kind and length of PES_packet_length; kind, place and length of
+   what follows the head. fields: 7 numbers */
+uint32_t cmv_pes_header_fields(const uint8_t *buf, size_t buf_len, uint64_t fields[7]);
+
+/* ---- Packets at one call. */
+
+/* error, start, priority, PID, counter, scrambled, scheme, whether an adaptation field and a payload are there by the control bits; then
+   word, place and length of the adaptation field, and of the payload. fields: 15 numbers */
+uint32_t cmv_packet_fields(const uint8_t *packet, size_t packet_len, uint64_t fields[15]);
+
+/* ---- Parsed contents of a PES packet at one call. */
+
+/* scrambling control, priority, alignment, copyright, original, the flags and the header data length; then the word and the numbers of
+   each of PTS and DTS, ESCR, ES rate, trick mode, raw trick mode, copy info, CRC and extension; then place and length of the payload.
+   fields: 34 numbers */
+uint32_t cmv_pes_contents_fields(const uint8_t *buf, size_t buf_len, uint64_t fields[34]);
 
 #ifdef __cplusplus
 }

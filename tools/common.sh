@@ -3,7 +3,7 @@
 
 top=$(cd "$(dirname "${BASH_SOURCE[0]}")/.." && pwd -P)
 target=$top/target
-parts=(host host_streams) # the crates that are built as archives: together they are the library
+parts=(host host_streams host_whole) # the crates that are built as archives: together they are the library
 library=("${parts[@]/#/$target/staticlib/lib}")
 library=("${library[@]/%/.a}")
 triple=x86_64-unknown-linux-gnu # what the library is compiled for

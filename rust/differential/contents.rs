@@ -9,7 +9,7 @@ use crate::host;
 use crate::kept::{place_and_length, Keeps};
 use crate::module::{Module, Plan};
 use crate::panics;
-use crate::reading::{self, Reading, Readings};
+use crate::reading::{self, Part, Reading, Readings, Row};
 use crate::record::{self, Sample};
 use crate::rng::Rng;
 use crate::slice;
@@ -126,6 +126,31 @@ pub const READINGS: [Reading; 17] = [
     }),
 ];
 
+/// All of it at one call.
+pub const ROW: Row = Row::new(
+    "pes_contents::fields",
+    GUARDED,
+    host::PES_CONTENTS_FIELDS,
+    &[
+        Part::Values("pes_contents::pes_scrambling_control"),
+        Part::Values("pes_contents::pes_priority"),
+        Part::Values("pes_contents::data_alignment_indicator"),
+        Part::Values("pes_contents::copyright"),
+        Part::Values("pes_contents::original_or_copy"),
+        Part::Values("pes_contents::flags"),
+        Part::Values("pes_contents::pes_header_data_len"),
+        Part::Worded("pes_contents::pts_dts"),
+        Part::Worded("pes_contents::escr"),
+        Part::Worded("pes_contents::es_rate"),
+        Part::Worded("pes_contents::dsm_trick_mode"),
+        Part::Worded("pes_contents::raw_trick_mode"),
+        Part::Worded("pes_contents::additional_copy_info"),
+        Part::Worded("pes_contents::previous_pes_packet_crc"),
+        Part::Worded("pes_contents::pes_extension"),
+        Part::Values("pes_contents::payload"),
+    ],
+);
+
 /// What the oracle gives: an answer that is accepted, or an error.
 type Outcome = Result<Answer, PesError>;
 
@@ -206,7 +231,7 @@ fn fields_end(flags: u8) -> usize {
 // ---- Slices.
 
 fn compare_readings(plan: &Plan) -> Vec<Tally> {
-    let mut readings = Readings::new(&READINGS, LONGEST);
+    let mut readings = Readings::new(&READINGS, LONGEST).and_row(&ROW);
     let mut rng = plan.rng(1);
     readings.compare_all(corner_contents());
     for flags in 0..=255 {

@@ -4,7 +4,7 @@ use crate::answer::Answer;
 use crate::host;
 use crate::kept::{place_and_length, Keeps};
 use crate::module::{Module, Plan};
-use crate::reading::{self, Reading, Readings};
+use crate::reading::{self, Part, Reading, Readings, Row};
 use crate::record::{self, Sample};
 use crate::rng::Rng;
 use crate::slice;
@@ -25,7 +25,7 @@ const SHORT: usize = 12;
 type Slice = slice::Slice<LONGEST>;
 
 fn compare(plan: &Plan) -> Vec<Tally> {
-    let mut readings = Readings::new(&READINGS, LONGEST);
+    let mut readings = Readings::new(&READINGS, LONGEST).and_row(&ROW);
     let mut rng = plan.rng(1);
     readings.compare_all(corner_heads());
     readings.compare_all(every_start_code_byte());
@@ -63,6 +63,18 @@ pub const READINGS: [Reading; 4] = [
         headed(bytes, |header| contents(bytes, header.contents()))
     }),
 ];
+
+/// All of it at one call.
+pub const ROW: Row = Row::new(
+    "pes_header::fields",
+    &[0, 3, 4],
+    host::PES_HEADER_FIELDS,
+    &[
+        Part::Values("pes_header::stream_id"),
+        Part::Values("pes_header::pes_packet_length"),
+        Part::Values("pes_header::contents"),
+    ],
+);
 
 /// What the oracle reads of a head. It does not say why it refuses one: the choice between 3 and 4 is the request's.
 fn headed(bytes: &[u8], read: impl FnOnce(PesHeader) -> Answer) -> Answer {

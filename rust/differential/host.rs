@@ -42,6 +42,28 @@ macro_rules! functions {
     };
 }
 
+/// Makes a `Reader` of each entry that reads a slice and fills a row of out numbers: `READER = entry[how many];`.
+macro_rules! rows {
+    ($($reader:ident = $entry:ident[$count:literal];)*) => {
+        $(pub const $reader: Reader = Reader {
+            outs: $count,
+            call: |buf, outs| {
+                let row: &mut [u64; $count] = outs.try_into().expect("a row has another count of out numbers");
+                // The pointer and the length are those of a live slice, and the row is live: all that the entry asks.
+                unsafe { $entry(buf.as_mut_ptr(), buf.len(), row) }
+            },
+        };)*
+    };
+}
+
+// ---- All that is read of a packet, of a head or of contents, at once.
+
+rows! {
+    PACKET_FIELDS = cmv_packet_fields[15];
+    PES_HEADER_FIELDS = cmv_pes_header_fields[7];
+    PES_CONTENTS_FIELDS = cmv_pes_contents_fields[34];
+}
+
 // ---- Timestamps.
 
 readers! {

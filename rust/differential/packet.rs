@@ -7,7 +7,7 @@ use crate::host;
 use crate::kept::{place_and_length, Keeps};
 use crate::module::{Module, Plan};
 use crate::panics;
-use crate::reading::{self, Reading, Readings};
+use crate::reading::{self, Part, Reading, Readings, Row};
 use crate::record::{self, Sample};
 use crate::rng::Rng;
 use crate::slice;
@@ -93,6 +93,24 @@ pub const READINGS: [Reading; 10] = [
     }),
 ];
 
+/// All of it at one call.
+pub const ROW: Row = Row::new(
+    "packet::fields",
+    &[0, 1, 2],
+    host::PACKET_FIELDS,
+    &[
+        Part::Values("packet::transport_error_indicator"),
+        Part::Values("packet::payload_unit_start_indicator"),
+        Part::Values("packet::transport_priority"),
+        Part::Values("packet::pid"),
+        Part::Values("packet::continuity_counter"),
+        Part::Values("packet::transport_scrambling_control"),
+        Part::Values("packet::adaptation_control"),
+        Part::Worded("packet::adaptation_field"),
+        Part::Worded("packet::payload"),
+    ],
+);
+
 /// What the oracle reads of a packet. It asserts that the slice has 188 bytes: the answer is 1 where it has not.
 fn sound(bytes: &[u8], read: impl FnOnce(&Packet) -> Answer) -> Answer {
     if bytes.len() != SIZE {
@@ -113,7 +131,7 @@ fn part(packet: &[u8], part: Option<&[u8]>) -> Answer {
 }
 
 fn compare_readings(plan: &Plan) -> Vec<Tally> {
-    let mut readings = Readings::new(&READINGS, LONGEST);
+    let mut readings = Readings::new(&READINGS, LONGEST).and_row(&ROW);
     let mut rng = plan.rng(1);
     readings.compare_all(corner_packets());
     readings.compare_all(every_length());

@@ -35,11 +35,11 @@ pub struct Walk {
 impl Walk {
     pub fn new() -> Walk {
         Walk {
-            packet: Readings::of_streams(&packet::READINGS, Packet::SIZE),
+            packet: Readings::of_streams(&packet::READINGS, Packet::SIZE).and_row(&packet::ROW),
             field: Readings::of_streams(&adaptation::FIELD, Packet::SIZE),
             extension: Readings::of_streams(&adaptation::EXTENSION, Packet::SIZE),
-            head: Readings::of_streams(&head::READINGS, Packet::SIZE),
-            contents: Readings::of_streams(&contents::READINGS, Packet::SIZE),
+            head: Readings::of_streams(&head::READINGS, Packet::SIZE).and_row(&head::ROW),
+            contents: Readings::of_streams(&contents::READINGS, Packet::SIZE).and_row(&contents::ROW),
         }
     }
 

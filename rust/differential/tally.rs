@@ -9,6 +9,9 @@ use std::time::Instant;
 /// How many differences of a function are printed with their input.
 const SHOWN: u64 = 5;
 
+/// The most out numbers that a row has.
+const LONGEST_ROW: usize = 34;
+
 /// What the library gave for one call.
 pub struct Given<'a> {
     /// The word that the entry returned.
@@ -113,6 +116,24 @@ impl Tally {
         outs.copy_from_slice(held);
         let word = reader.call(lent.slice(), outs);
         self.take(expected, &Given { word, held, outs, unchanged: lent.unchanged() }, input);
+    }
+
+    /// The same of an entry that gives a row of answers: all of it is refused as `whole` is, or it is these values.
+    pub fn call_row(
+        &mut self,
+        whole: &Answer,
+        values: &[u64],
+        lent: &mut Lent,
+        reader: &Reader,
+        input: impl FnOnce() -> String,
+    ) {
+        let held: [u64; LONGEST_ROW] = std::array::from_fn(|nth| self.held(nth));
+        let (held, outs) = (&held[..reader.outs], &mut held.clone()[..reader.outs]);
+        let word = reader.call(lent.slice(), outs);
+        let row = if whole.number() == 0 { values } else { held };
+        let given = Given { word, held, outs, unchanged: lent.unchanged() };
+        let agrees = word == whole.word() && given.outs == row && given.unchanged;
+        self.take_check(whole, agrees, input, || format!("{given} for {row:?}"));
     }
 
     /// Counts what a call gave; `input` is written out only where the answers differ.

@@ -32,17 +32,17 @@ pub struct Cases {
 
 impl Cases {
     pub fn new() -> Cases {
-        let all = [
-            &timestamp::READINGS[..],
-            &control::READINGS,
-            &packet::READINGS,
-            &adaptation::FIELD,
-            &adaptation::EXTENSION,
-            &head::READINGS,
-            &contents::READINGS,
-        ];
+        let of = |readings| Readings::of_streams(readings, LONGEST);
         Cases {
-            readings: all.map(|readings| Readings::of_streams(readings, LONGEST)),
+            readings: [
+                of(&timestamp::READINGS),
+                of(&control::READINGS),
+                of(&packet::READINGS).and_row(&packet::ROW),
+                of(&adaptation::FIELD),
+                of(&adaptation::EXTENSION),
+                of(&head::READINGS).and_row(&head::ROW),
+                of(&contents::READINGS).and_row(&contents::ROW),
+            ],
             readers: stream::Walk::new(),
             events: machine_stream::Walk::new(PACKETS, [&[]; 3]),
             gathered: gather_stream::Walk::new(PACKETS, [&[]; 3]),

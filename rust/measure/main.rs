@@ -49,8 +49,14 @@ mod writer;
 use calls::Function;
 use row::{Row, Side};
 
-const FUNCTIONS: [Function; 4] =
-    [timestamp::FROM_BYTES, timestamp::FROM_PTS_BYTES, packet::EVERY_FIELD, header::EVERY_FIELD];
+const FUNCTIONS: [Function; 6] = [
+    timestamp::FROM_BYTES,
+    timestamp::FROM_PTS_BYTES,
+    packet::EVERY_FIELD,
+    packet::EVERY_FIELD_AT_ONCE,
+    header::EVERY_FIELD,
+    header::EVERY_FIELD_AT_ONCE,
+];
 
 fn rows(files: &[String]) -> Vec<Row> {
     let functions = FUNCTIONS.into_iter().flat_map(Function::rows);

@@ -3,13 +3,17 @@
 use crate::calls::Function;
 use crate::declarations::*;
 use crate::rng::Rng;
-use crate::sum::{ask, Given, Sum};
+use crate::sum::{ask, row, Given, Sum};
 use crate::values;
 use mpeg2ts_reader::packet::{AdaptationField, AdaptationFieldError, Packet};
 use std::slice;
 
 pub const EVERY_FIELD: Function =
     Function { name: "packet, every field", library, rust, count: 100_000, size: Packet::SIZE, make };
+
+/// The same, but for the adaptation field, at one call.
+pub const EVERY_FIELD_AT_ONCE: Function =
+    Function { name: "packet, all fields at one call", library: library_at_once, ..EVERY_FIELD };
 
 // ---- The library. The pointers and lengths are those of the lent slice or of a part of it that the library gave.
 
@@ -29,6 +33,25 @@ unsafe extern "C" fn library(buf: *const u8, len: usize, value: *mut u64) -> u32
         library_field(&mut sum, buf.add(place as usize), length as usize);
     }
     let (_, [_, payload]) = ask(|[p, l]| cmv_packet_payload(buf, len, p, l));
+    sum.add(payload);
+    *value = sum.total();
+    0
+}
+
+#[inline(never)]
+unsafe extern "C" fn library_at_once(buf: *const u8, len: usize, value: *mut u64) -> u32 {
+    let mut fields = [0; 15];
+    let word = cmv_packet_fields(buf, len, &mut fields);
+    if word != 0 {
+        return word;
+    }
+    let mut sum = Sum::new();
+    let [error, start, priority, pid, counter, ..] = fields;
+    sum.take((0, [error, start, priority, pid, counter]));
+    if let (0, [place, length]) = row(&fields, 9) {
+        library_field(&mut sum, buf.add(place as usize), length as usize);
+    }
+    let (_, [_, payload]) = row(&fields, 12);
     sum.add(payload);
     *value = sum.total();
     0

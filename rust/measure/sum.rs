@@ -31,6 +31,12 @@ impl Sum {
     }
 }
 
+/// What a field gives, out of a row of numbers: its word is at a place, and its values are behind it.
+#[inline(always)]
+pub fn row<const N: usize>(numbers: &[u64], at: usize) -> Given<N> {
+    (numbers[at] as u32, std::array::from_fn(|nth| numbers[at + 1 + nth]))
+}
+
 /// Calls an entry of the library with N out numbers.
 #[inline(always)]
 pub fn ask<const N: usize>(entry: impl FnOnce(&mut [u64; N]) -> u32) -> Given<N> {

@@ -119,13 +119,17 @@ not-done Refusal.BadCheckBits z = omega arith
 not-done Refusal.HeaderPastBuffer z = omega arith
 not-done Refusal.FieldsPastHeader z = omega arith
 
--- so the answer of `from_bytes` settles every reader's: as that reader tests it, by the variant
-pub accepted : (c : List ℕ) (r : ContentsRead) → r ≡ ContentsRead.Done → givenContents r ≡ readContents c → Accepted c
-accepted c r e g = go (verdict c)
+-- so the number of `from_bytes` settles every reader's
+pub accepted-by : (c : List ℕ) → readContents c .number ≡ 0 → Accepted c
+accepted-by c z = go (verdict c)
   where
     go : Verdict c → Accepted c
     go (passed h) = h
-    go (barred k b) = absurd (not-done k (ap (λ (a : Answer). a .number) (b (answer 0 []) ∙ (sym g ∙ ap givenContents e))))
+    go (barred k b) = absurd (not-done k (ap (λ (a : Answer). a .number) (b (answer 0 [])) ∙ z))
+
+-- and its answer, as that reader tests it, by the variant
+pub accepted : (c : List ℕ) (r : ContentsRead) → r ≡ ContentsRead.Done → givenContents r ≡ readContents c → Accepted c
+accepted c r e g = accepted-by c (ap (λ (a : Answer). a .number) (sym g ∙ ap givenContents e))
 
 pub refused : (c : List ℕ) (r : ContentsRead) (k : Refusal) → r ≡ ContentsRead.Refused k → givenContents r ≡ readContents c → (a : Answer) → refusal k ≡ guarded c a
 refused c r k e g a = go (verdict c)

@@ -3,9 +3,10 @@
 use mathlib.Core.Path.{_≡_, refl, sym, ap, _∙_}
 use mathlib.Core.Bool.{Bool, true, false}
 use mathlib.Core.List.{List, [], _∷_}
-use Prim.Native.Nat.{ℕ}
+use Prim.Native.Nat.{ℕ, _+_, _*_}
+use native.Mathlib.Omega.{arith}
 use lib.Dec.{eqb}
-use borrow.Author.Tests.{eqb-true}
+use borrow.Author.Tests.{eq-eqb, ne-eqb, eqb-true}
 use lib.ListN.{length, getD}
 use mir.Val.{boolByte}
 use Rattle.bits.specs.Answer.{Answer, answer, pick, andThen, truth}
@@ -19,7 +20,7 @@ use Rattle.control.specs.Control.{makeCounter, follows, isScrambled, scrambling
 use Rattle.packet.specs.Packet.{sound, readByteFour}
 use Rattle.host.specs.Clocks.{sameAnswer, followsAnswer, scramblingAnswer}
 use Rattle.host.specs.Stamps.{wrapAnswer}
-use Rattle.host.specs.Told.{Told, word, outs}
+use Rattle.host.specs.Told.{Told, word, filled, outs}
 
 pub told : {a : Answer} {w : ℕ} {lent left : List ℕ} → (w ≡ word a) × (left ≡ outs a lent) → Told a w lent left
 told h = record { number = h .0; numbers = h .1 }
@@ -36,6 +37,41 @@ told-of given f e t = rw (← e, f) t
 both-told : {p q : Answer} (vs ws : List ℕ) (l : ℕ) (b t : Bool) → answer 0 vs ≡ p → answer 0 ws ≡ q → b ≡ t
     → Told (andThen p (andThen q (answer 0 (truth t ∷ [])))) 0 (l ∷ []) (boolByte b ∷ [])
 both-told vs ws l b t p q e = rw (← p, ← q) (told (refl, ap (λ (n : ℕ). n ∷ []) (ap truth e)))
+
+-- ---- answers that stand behind a first one
+
+-- a word of 0 is that of an accepted answer, and no other is
+word-done : (a : Answer) → word a ≡ 0 → a .number ≡ 0
+word-done a = go (eqb (a .number) 0) refl
+  where
+    go : (t : Bool) → eqb (a .number) 0 ≡ t → pick t 0 (a .number + 256 * getD (a .values) 0 0 + 65536 * getD (a .values) 1 0) ≡ 0
+        → a .number ≡ 0
+    go true e h = eqb-true (a .number) 0 e
+    go false e h = omega arith
+
+word-refused : (a : Answer) → (word a ≡ 0 → ⊥) → a .number ≡ 0 → ⊥
+word-refused a h z = h (simp (eq-eqb (a .number) 0 z))
+
+pub told-done : {a : Answer} {w : ℕ} {lent left : List ℕ} → Told a w lent left → w ≡ 0 → a .number ≡ 0
+told-done {a} t h = word-done a (sym (t .number) ∙ h)
+
+-- as many values as numbers are lent fill them all
+filled-all : (lent vs : List ℕ) → length lent ≡ length vs → filled lent vs ≡ vs
+filled-all [] [] h = refl
+filled-all [] (v ∷ vs) h = absurd (omega arith)
+filled-all (x ∷ xs) [] h = absurd (omega arith)
+filled-all (x ∷ xs) (v ∷ vs) h = ap (λ (t : List ℕ). v ∷ t) (filled-all xs vs (omega arith))
+
+-- where the first is refused it is told, whatever numbers are lent; else all that are lent are filled
+module _ {a : Answer} {w : ℕ} (lent : List ℕ) (t : Told a w [] []) where
+  pub told-first : (b : Answer) → (w ≡ 0 → ⊥) → Told (andThen a b) w lent lent
+  told-first b h =
+      let e : eqb (a .number) 0 ≡ false = ne-eqb (a .number) 0 (word-refused a (λ z. h (t .number ∙ z))) in
+      rw e (told (t .number, simp e))
+
+  pub told-whole : {left vs : List ℕ} → w ≡ 0 → left ≡ vs → length lent ≡ length left → Told (andThen a (answer 0 vs)) 0 lent left
+  told-whole {left} {vs} h e l =
+      rw (eq-eqb (a .number) 0 (told-done t h)) (told (refl, e ∙ sym (filled-all lent vs (l ∙ ap length e))))
 
 -- ---- timestamps
 

@@ -7,7 +7,7 @@
 #![allow(dead_code)]
 
 /// The names of the archives, without `lib` and `.a`.
-pub const ARCHIVES: [&str; 2] = ["host", "host_streams"];
+pub const ARCHIVES: [&str; 3] = ["host", "host_streams", "host_whole"];
 
 // libhost.a
 #[rustfmt::skip]
@@ -202,4 +202,12 @@ extern "C" {
         out_len: usize,
         count: *mut u64,
     ) -> u32;
+}
+
+// libhost_whole.a
+#[rustfmt::skip]
+extern "C" {
+    pub fn cmv_pes_header_fields(buf: *const u8, buf_len: usize, fields: *mut [u64; 7]) -> u32;
+    pub fn cmv_packet_fields(packet: *const u8, packet_len: usize, fields: *mut [u64; 15]) -> u32;
+    pub fn cmv_pes_contents_fields(buf: *const u8, buf_len: usize, fields: *mut [u64; 34]) -> u32;
 }
