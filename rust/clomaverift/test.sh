@@ -25,7 +25,7 @@ build_all() {
     for name in "${tests[@]}"; do
         build "tests/$name.rs" "$name" --test "${crate[@]}"
     done
-    for name in times payload; do
+    for name in times payload rewrite; do
         build "examples/$name.rs" "$name" "${crate[@]}"
     done
 }

@@ -28,6 +28,43 @@ macro_rules! readers {
     };
 }
 
+/// The numbers of an entry that tells many fields at one call. They are taken in their order: a struct's fields are made as they are
+/// written.
+pub struct Row<const N: usize> {
+    numbers: [u64; N],
+    taken: usize,
+}
+
+impl<const N: usize> Row<N> {
+    /// The next numbers.
+    #[inline(always)] // so that every place is a constant
+    pub fn numbers<const K: usize>(&mut self) -> [u64; K] {
+        let place = self.taken;
+        self.taken += K;
+        std::array::from_fn(|at| self.numbers[place + at])
+    }
+
+    /// The next word, and the numbers after it or the refusal that it says.
+    #[inline(always)]
+    pub fn answer<const K: usize>(&mut self) -> Result<[u64; K], Error> {
+        let [word] = self.numbers();
+        let outs = self.numbers();
+        told(word as u32, outs)
+    }
+}
+
+/// Makes a safe function of each entry that reads a slice and fills a row of out numbers.
+macro_rules! rows {
+    ($($function:ident = $entry:ident[$count:literal];)*) => {
+        $(pub fn $function(buf: &[u8]) -> Result<Row<$count>, Error> {
+            let mut numbers = [0; $count];
+            // SAFETY: the pointer and the length are those of a live slice, and the row is live: all that the entry asks.
+            let word = unsafe { $entry(buf.as_ptr(), buf.len(), &mut numbers) };
+            told(word, Row { numbers, taken: 0 })
+        })*
+    };
+}
+
 /// Makes a safe function of each entry on numbers.
 macro_rules! functions {
     ($($function:ident = $entry:ident($($number:ident: $kind:ty),* => $($out:ident),*);)*) => {
@@ -90,6 +127,10 @@ functions! {
     packet_is_sync_byte = cmv_packet_is_sync_byte(b: u8 => is);
 }
 
+rows! {
+    packet_fields = cmv_packet_fields[15];
+}
+
 // ---- Adaptation fields and their extensions.
 
 readers! {
@@ -136,6 +177,10 @@ readers! {
     pes_contents_previous_pes_packet_crc = cmv_pes_contents_previous_pes_packet_crc(value);
     pes_contents_pes_extension = cmv_pes_contents_pes_extension(place, length);
     pes_contents_payload = cmv_pes_contents_payload(place, length);
+}
+
+rows! {
+    pes_contents_fields = cmv_pes_contents_fields[34];
 }
 
 functions! {

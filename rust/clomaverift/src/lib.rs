@@ -20,6 +20,7 @@
 //! - There is one [`Error`] for `AdaptationFieldError`, `PesError` and `TimestampError`.
 //! - [`PtsDts`] has no cases `None` and `Invalid`, which mpeg2ts-reader never gives.
 //! - [`PesParsedContents`] has more readers: `flags`, `pes_header_data_len`, `pes_scrambling_control`, `raw_trick_mode`.
+//! - [`Packet::fields`] and [`PesParsedContents::fields`] read all fields by one call.
 //! - `PesPacketFilter` and `ElementaryStreamConsumer` are [`Machine`] and a log of [`Event`]s. Program tables are not read.
 //!
 //! # Linking
@@ -64,11 +65,12 @@ pub use error::Error;
 pub use gather::Gathering;
 pub use machine::{Event, EventKind, Events, Machine, Phase};
 pub use packet::{
-    AdaptationControl, AdaptationField, AdaptationFieldExtension, ClockRef, ContinuityCounter, Packet, Pid,
-    SeamlessSplice, TransportScramblingControl,
+    AdaptationControl, AdaptationField, AdaptationFieldExtension, ClockRef, ContinuityCounter, Packet, PacketFields,
+    Pid, SeamlessSplice, TransportScramblingControl,
 };
 pub use pes::{
     Copyright, CopyrightStatus, DataAlignment, DsmTrickMode, EsRate, FrequencyTruncationCoefficientSelection,
-    OriginalOrCopy, PesContents, PesExtension, PesHeader, PesLength, PesParsedContents, PtsDts, StreamId, Timestamp,
+    OriginalOrCopy, PesContents, PesExtension, PesFields, PesHeader, PesLength, PesParsedContents, PtsDts, StreamId,
+    Timestamp,
 };
 pub use writer::{write, Times, Unit};

@@ -7,15 +7,18 @@ use std::fmt;
 use std::num::NonZeroU8;
 
 /// A part of a slice, by place and length.
-pub(crate) fn part(buf: &[u8], answer: Result<[u64; 2], Error>) -> Result<&[u8], Error> {
-    let [place, length] = answer?;
-    Ok(&buf[place as usize..][..length as usize])
+pub(crate) fn part(buf: &[u8], [place, length]: [u64; 2]) -> &[u8] {
+    &buf[place as usize..][..length as usize]
 }
 
-/// The flag of an answer that cannot be a refusal.
-fn flag(answer: Result<[u64; 1], Error>) -> bool {
-    let [value] = sure(answer);
+/// A number that is a flag.
+pub(crate) fn flag([value]: [u64; 1]) -> bool {
     value != 0
+}
+
+/// A number that is a byte.
+pub(crate) fn byte([value]: [u64; 1]) -> u8 {
+    value as u8
 }
 
 /// Whether a packet's fourth byte announces an adaptation field and a payload.
@@ -128,7 +131,7 @@ impl ClockRef {
 
 impl PartialEq for ClockRef {
     fn eq(&self, other: &ClockRef) -> bool {
-        flag(ffi::clock_ref_eq(self.base, self.extension, other.base, other.extension))
+        flag(sure(ffi::clock_ref_eq(self.base, self.extension, other.base, other.extension)))
     }
 }
 
@@ -180,7 +183,7 @@ impl ContinuityCounter {
 
     /// Whether this counter is the one after the other, 0 being the one after 15.
     pub fn follows(self, other: ContinuityCounter) -> bool {
-        flag(ffi::continuity_counter_follows(self.val, other.val))
+        flag(sure(ffi::continuity_counter_follows(self.val, other.val)))
     }
 }
 
@@ -283,7 +286,7 @@ impl<'buf> Packet<'buf> {
 
     /// Whether a packet may begin with this byte.
     pub fn is_sync_byte(b: u8) -> bool {
-        flag(ffi::packet_is_sync_byte(b))
+        flag(sure(ffi::packet_is_sync_byte(b)))
     }
 
     /// [`Error::WrongLength`] for other than 188 bytes, [`Error::NoSync`] where the first is not the sync byte.
@@ -294,17 +297,17 @@ impl<'buf> Packet<'buf> {
 
     /// Whether an earlier receiver has marked the packet as damaged.
     pub fn transport_error_indicator(&self) -> bool {
-        flag(ffi::packet_transport_error_indicator(self.buf))
+        flag(sure(ffi::packet_transport_error_indicator(self.buf)))
     }
 
     /// Whether a unit begins with this packet's payload.
     pub fn payload_unit_start_indicator(&self) -> bool {
-        flag(ffi::packet_payload_unit_start_indicator(self.buf))
+        flag(sure(ffi::packet_payload_unit_start_indicator(self.buf)))
     }
 
     /// Whether the packet goes before others of its PID.
     pub fn transport_priority(&self) -> bool {
-        flag(ffi::packet_transport_priority(self.buf))
+        flag(sure(ffi::packet_transport_priority(self.buf)))
     }
 
     /// The stream that the packet is of.
@@ -329,19 +332,73 @@ impl<'buf> Packet<'buf> {
 
     /// The adaptation field, if there is one whose length can be: 1 to 182 beside a payload, else 183.
     pub fn adaptation_field(&self) -> Option<AdaptationField<'buf>> {
-        let buf = part(self.buf, ffi::packet_adaptation_field(self.buf)).ok()?;
-        Some(AdaptationField { buf })
+        AdaptationField::of(self.buf, ffi::packet_adaptation_field(self.buf))
     }
 
     /// The payload, if there is one. It is never empty.
     pub fn payload(&self) -> Option<&'buf [u8]> {
-        part(self.buf, ffi::packet_payload(self.buf)).ok()
+        self.payload_of(ffi::packet_payload(self.buf))
+    }
+
+    fn payload_of(&self, answer: Result<[u64; 2], Error>) -> Option<&'buf [u8]> {
+        answer.ok().map(|lies| part(self.buf, lies))
+    }
+
+    /// All that the methods above give, by one call of the library.
+    ///
+    /// ```
+    /// use clomaverift::{Error, Packet, Pid};
+    ///
+    /// let mut bytes = [0xFF; Packet::SIZE];
+    /// bytes[..4].copy_from_slice(&[0x47, 0x41, 0x00, 0x13]);
+    /// let fields = Packet::try_new(&bytes)?.fields();
+    /// assert_eq!(fields.pid, Pid::new(0x100)?);
+    /// assert!(fields.payload_unit_start_indicator && fields.adaptation_field.is_none());
+    /// assert_eq!(fields.payload, Some(&bytes[4..]));
+    /// # Ok::<(), Error>(())
+    /// ```
+    pub fn fields(&self) -> PacketFields<'buf> {
+        let mut row = sure(ffi::packet_fields(self.buf));
+        PacketFields {
+            transport_error_indicator: flag(row.numbers()),
+            payload_unit_start_indicator: flag(row.numbers()),
+            transport_priority: flag(row.numbers()),
+            pid: Pid::of(row.numbers()),
+            continuity_counter: ContinuityCounter::of(row.numbers()),
+            transport_scrambling_control: TransportScramblingControl::of(row.numbers()),
+            adaptation_control: AdaptationControl::of(row.numbers()),
+            adaptation_field: AdaptationField::of(self.buf, row.answer()),
+            payload: self.payload_of(row.answer()),
+        }
     }
 
     /// The packet's bytes.
     pub fn buffer(&self) -> &'buf [u8] {
         self.buf
     }
+}
+
+/// All that is read of a packet: each field is what the method of [`Packet`] with its name gives.
+#[derive(Clone, Copy, Debug, PartialEq, Eq)]
+pub struct PacketFields<'buf> {
+    /// Whether an earlier receiver has marked the packet as damaged.
+    pub transport_error_indicator: bool,
+    /// Whether a unit begins with this packet's payload.
+    pub payload_unit_start_indicator: bool,
+    /// Whether the packet goes before others of its PID.
+    pub transport_priority: bool,
+    /// The stream that the packet is of.
+    pub pid: Pid,
+    /// The continuity counter.
+    pub continuity_counter: ContinuityCounter,
+    /// The scrambling bits.
+    pub transport_scrambling_control: TransportScramblingControl,
+    /// Whether an adaptation field and a payload are announced.
+    pub adaptation_control: AdaptationControl,
+    /// The adaptation field, if there is one whose length can be.
+    pub adaptation_field: Option<AdaptationField<'buf>>,
+    /// The payload, if there is one. It is never empty.
+    pub payload: Option<&'buf [u8]>,
 }
 
 /// An adaptation field, without its length byte.
@@ -358,7 +415,7 @@ impl<'buf> Packet<'buf> {
 /// assert_eq!(field.opcr(), Err(Error::FieldNotPresent));
 /// # Ok::<(), Error>(())
 /// ```
-#[derive(Clone, Copy, Debug)]
+#[derive(Clone, Copy, Debug, PartialEq, Eq)]
 pub struct AdaptationField<'buf> {
     buf: &'buf [u8],
 }
@@ -370,19 +427,24 @@ impl<'buf> AdaptationField<'buf> {
         Ok(AdaptationField { buf })
     }
 
+    /// Of a packet, and the answer that says where the field lies in it.
+    fn of(packet: &'buf [u8], answer: Result<[u64; 2], Error>) -> Option<AdaptationField<'buf>> {
+        answer.ok().map(|lies| AdaptationField { buf: part(packet, lies) })
+    }
+
     /// Whether a break of the stream is announced.
     pub fn discontinuity_indicator(&self) -> bool {
-        flag(ffi::adaptation_field_discontinuity_indicator(self.buf))
+        flag(sure(ffi::adaptation_field_discontinuity_indicator(self.buf)))
     }
 
     /// Whether the stream can be entered here.
     pub fn random_access_indicator(&self) -> bool {
-        flag(ffi::adaptation_field_random_access_indicator(self.buf))
+        flag(sure(ffi::adaptation_field_random_access_indicator(self.buf)))
     }
 
     /// 1 where the payload goes before others of its PID, else 0.
     pub fn elementary_stream_priority_indicator(&self) -> u8 {
-        flag(ffi::adaptation_field_elementary_stream_priority_indicator(self.buf)).into()
+        flag(sure(ffi::adaptation_field_elementary_stream_priority_indicator(self.buf))).into()
     }
 
     /// The program clock reference.
@@ -397,18 +459,18 @@ impl<'buf> AdaptationField<'buf> {
 
     /// The packets of this PID before a splicing point.
     pub fn splice_countdown(&self) -> Result<u8, Error> {
-        ffi::adaptation_field_splice_countdown(self.buf).map(|[value]| value as u8)
+        ffi::adaptation_field_splice_countdown(self.buf).map(byte)
     }
 
     /// The private data.
     pub fn transport_private_data(&self) -> Result<&'buf [u8], Error> {
-        part(self.buf, ffi::adaptation_field_transport_private_data(self.buf))
+        ffi::adaptation_field_transport_private_data(self.buf).map(|lies| part(self.buf, lies))
     }
 
     /// The extension. One of no bytes is [`Error::NotEnoughData`].
     pub fn adaptation_field_extension(&self) -> Result<AdaptationFieldExtension<'buf>, Error> {
-        let buf = part(self.buf, ffi::adaptation_field_extension(self.buf))?;
-        Ok(AdaptationFieldExtension { buf })
+        let lies = ffi::adaptation_field_extension(self.buf)?;
+        Ok(AdaptationFieldExtension { buf: part(self.buf, lies) })
     }
 }
 

@@ -2,15 +2,9 @@
 
 use crate::error::{sure, Error};
 use crate::ffi;
-use crate::packet::{part, ClockRef};
+use crate::packet::{byte, flag, part, ClockRef};
 use std::fmt;
 use std::num::NonZeroU16;
-
-/// The number of an answer that cannot be a refusal.
-fn number(answer: Result<[u64; 1], Error>) -> u64 {
-    let [value] = sure(answer);
-    value
-}
 
 /// The length that a PES header gives.
 #[derive(Clone, Copy, Debug, PartialEq, Eq)]
@@ -149,7 +143,7 @@ impl<'buf> PesHeader<'buf> {
     /// What follows the six bytes of the header, by the stream id: parsed contents, or a payload alone.
     pub fn contents(&self) -> PesContents<'buf> {
         let [kind, place, length] = sure(ffi::pes_header_contents(self.buf));
-        let rest = &self.buf[place as usize..][..length as usize];
+        let rest = part(self.buf, [place, length]);
         match kind {
             0 => PesContents::Payload(rest),
             _ => PesContents::Parsed(PesParsedContents::from_bytes(rest)),
@@ -270,7 +264,8 @@ impl EsRate {
 
     /// The rate in bytes a second.
     pub fn bytes_per_second(&self) -> u32 {
-        number(ffi::es_rate_bytes_per_second(self.0)) as u32
+        let [rate] = sure(ffi::es_rate_bytes_per_second(self.0));
+        rate as u32
     }
 }
 
@@ -287,6 +282,11 @@ pub struct PesExtension<'buf> {
 }
 
 impl<'buf> PesExtension<'buf> {
+    /// Of parsed contents, and where the extension lies in them.
+    fn of(contents: &'buf [u8], lies: [u64; 2]) -> PesExtension<'buf> {
+        PesExtension { buf: part(contents, lies) }
+    }
+
     /// The extension's bytes, with the stuffing after it.
     pub fn buffer(&self) -> &'buf [u8] {
         self.buf
@@ -323,56 +323,42 @@ impl<'buf> PesParsedContents<'buf> {
 
     /// 1 where the packet goes before others, else 0.
     pub fn pes_priority(&self) -> u8 {
-        number(ffi::pes_contents_pes_priority(self.buf)) as u8
+        byte(sure(ffi::pes_contents_pes_priority(self.buf)))
     }
 
     /// The scrambling bits of the payload.
     pub fn pes_scrambling_control(&self) -> u8 {
-        number(ffi::pes_contents_pes_scrambling_control(self.buf)) as u8
+        byte(sure(ffi::pes_contents_pes_scrambling_control(self.buf)))
     }
 
     /// The flag byte.
     pub fn flags(&self) -> u8 {
-        number(ffi::pes_contents_flags(self.buf)) as u8
+        byte(sure(ffi::pes_contents_flags(self.buf)))
     }
 
     /// The bytes of the fields and of the stuffing after them.
     pub fn pes_header_data_len(&self) -> u8 {
-        number(ffi::pes_contents_pes_header_data_len(self.buf)) as u8
+        byte(sure(ffi::pes_contents_pes_header_data_len(self.buf)))
     }
 
     /// Whether an access unit begins with the payload.
     pub fn data_alignment_indicator(&self) -> DataAlignment {
-        match number(ffi::pes_contents_data_alignment_indicator(self.buf)) {
-            0 => DataAlignment::NotAligned,
-            _ => DataAlignment::Aligned,
-        }
+        DataAlignment::of(sure(ffi::pes_contents_data_alignment_indicator(self.buf)))
     }
 
     /// The copyright bit, as mpeg2ts-reader reads it: 1 is undefined.
     pub fn copyright(&self) -> Copyright {
-        match number(ffi::pes_contents_copyright(self.buf)) {
-            0 => Copyright::Protected,
-            _ => Copyright::Undefined,
-        }
+        Copyright::of(sure(ffi::pes_contents_copyright(self.buf)))
     }
 
     /// Whether the payload is an original or a copy.
     pub fn original_or_copy(&self) -> OriginalOrCopy {
-        match number(ffi::pes_contents_original_or_copy(self.buf)) {
-            0 => OriginalOrCopy::Copy,
-            _ => OriginalOrCopy::Original,
-        }
+        OriginalOrCopy::of(sure(ffi::pes_contents_original_or_copy(self.buf)))
     }
 
     /// The timestamps. [`Error::PtsDtsFlagsInvalid`] where the flags announce a DTS alone.
     pub fn pts_dts(&self) -> Result<PtsDts, Error> {
-        let [kind, pts_number, pts, dts_number, dts] = ffi::pes_contents_pts_dts(self.buf)?;
-        let pts = PtsDts::inner(pts_number, pts);
-        Ok(match kind {
-            1 => PtsDts::PtsOnly(pts),
-            _ => PtsDts::Both { pts, dts: PtsDts::inner(dts_number, dts) },
-        })
+        ffi::pes_contents_pts_dts(self.buf).map(PtsDts::of)
     }
 
     /// The elementary stream clock reference.
@@ -392,29 +378,103 @@ impl<'buf> PesParsedContents<'buf> {
 
     /// The trick mode's byte.
     pub fn raw_trick_mode(&self) -> Result<u8, Error> {
-        ffi::pes_contents_raw_trick_mode(self.buf).map(|[value]| value as u8)
+        ffi::pes_contents_raw_trick_mode(self.buf).map(byte)
     }
 
     /// The additional copy info, of 7 bits. [`Error::MarkerBitNotSet`] with bit 0 where its first bit is 0.
     pub fn additional_copy_info(&self) -> Result<u8, Error> {
-        ffi::pes_contents_additional_copy_info(self.buf).map(|[value]| value as u8)
+        ffi::pes_contents_additional_copy_info(self.buf).map(byte)
     }
 
     /// The check sum of the PES packet before. It is not checked.
     pub fn previous_pes_packet_crc(&self) -> Result<u16, Error> {
-        ffi::pes_contents_previous_pes_packet_crc(self.buf).map(|[value]| value as u16)
+        ffi::pes_contents_previous_pes_packet_crc(self.buf).map(PesParsedContents::crc)
+    }
+
+    fn crc([value]: [u64; 1]) -> u16 {
+        value as u16
     }
 
     /// The extension.
     pub fn pes_extension(&self) -> Result<PesExtension<'buf>, Error> {
-        let buf = part(self.buf, ffi::pes_contents_pes_extension(self.buf))?;
-        Ok(PesExtension { buf })
+        ffi::pes_contents_pes_extension(self.buf).map(|lies| PesExtension::of(self.buf, lies))
     }
 
     /// The part of the payload that is in these bytes. It may be empty.
     pub fn payload(&self) -> &'buf [u8] {
-        sure(part(self.buf, ffi::pes_contents_payload(self.buf)))
+        part(self.buf, sure(ffi::pes_contents_payload(self.buf)))
     }
+
+    /// All that the methods above give, by one call of the library.
+    ///
+    /// ```
+    /// use clomaverift::{DataAlignment, Error, PesParsedContents, PtsDts, Timestamp};
+    ///
+    /// let fields = PesParsedContents::from_bytes(&[0x84, 0x80, 5, 0x21, 0, 5, 0xBF, 0x21, 1, 2])?.fields();
+    /// assert_eq!(fields.data_alignment_indicator, DataAlignment::Aligned);
+    /// assert_eq!(fields.pts_dts, Ok(PtsDts::PtsOnly(Timestamp::from_u64(90_000))));
+    /// assert_eq!(fields.escr, Err(Error::FieldNotPresent));
+    /// assert_eq!(fields.payload, [1, 2]);
+    /// # Ok::<(), Error>(())
+    /// ```
+    pub fn fields(&self) -> PesFields<'buf> {
+        let mut row = sure(ffi::pes_contents_fields(self.buf));
+        PesFields {
+            pes_scrambling_control: byte(row.numbers()),
+            pes_priority: byte(row.numbers()),
+            data_alignment_indicator: DataAlignment::of(row.numbers()),
+            copyright: Copyright::of(row.numbers()),
+            original_or_copy: OriginalOrCopy::of(row.numbers()),
+            flags: byte(row.numbers()),
+            pes_header_data_len: byte(row.numbers()),
+            pts_dts: row.answer().map(PtsDts::of),
+            escr: row.answer().map(ClockRef::of),
+            es_rate: row.answer().map(EsRate::of),
+            dsm_trick_mode: row.answer().map(DsmTrickMode::of),
+            raw_trick_mode: row.answer().map(byte),
+            additional_copy_info: row.answer().map(byte),
+            previous_pes_packet_crc: row.answer().map(PesParsedContents::crc),
+            pes_extension: row.answer().map(|lies| PesExtension::of(self.buf, lies)),
+            payload: part(self.buf, row.numbers()),
+        }
+    }
+}
+
+/// All that is read of parsed contents: each field is what the method of [`PesParsedContents`] with its name gives.
+#[derive(Clone, Copy, Debug, PartialEq, Eq)]
+pub struct PesFields<'buf> {
+    /// The scrambling bits of the payload.
+    pub pes_scrambling_control: u8,
+    /// 1 where the packet goes before others, else 0.
+    pub pes_priority: u8,
+    /// Whether an access unit begins with the payload.
+    pub data_alignment_indicator: DataAlignment,
+    /// The copyright bit, as mpeg2ts-reader reads it: 1 is undefined.
+    pub copyright: Copyright,
+    /// Whether the payload is an original or a copy.
+    pub original_or_copy: OriginalOrCopy,
+    /// The flag byte.
+    pub flags: u8,
+    /// The bytes of the fields and of the stuffing after them.
+    pub pes_header_data_len: u8,
+    /// The timestamps.
+    pub pts_dts: Result<PtsDts, Error>,
+    /// The elementary stream clock reference.
+    pub escr: Result<ClockRef, Error>,
+    /// The elementary stream rate.
+    pub es_rate: Result<EsRate, Error>,
+    /// The trick mode.
+    pub dsm_trick_mode: Result<DsmTrickMode, Error>,
+    /// The trick mode's byte.
+    pub raw_trick_mode: Result<u8, Error>,
+    /// The additional copy info, of 7 bits.
+    pub additional_copy_info: Result<u8, Error>,
+    /// The check sum of the PES packet before.
+    pub previous_pes_packet_crc: Result<u16, Error>,
+    /// The extension.
+    pub pes_extension: Result<PesExtension<'buf>, Error>,
+    /// The part of the payload that is in the contents' bytes. It may be empty.
+    pub payload: &'buf [u8],
 }
 
 /// A timestamp of 33 bits, at 90 kHz.
@@ -478,7 +538,7 @@ impl Timestamp {
     /// # Ok::<(), clomaverift::Error>(())
     /// ```
     pub fn likely_wrapped_since(self, since: Timestamp) -> bool {
-        number(ffi::timestamp_likely_wrapped_since(self.val, since.val)) != 0
+        flag(sure(ffi::timestamp_likely_wrapped_since(self.val, since.val)))
     }
 }
 
@@ -497,6 +557,14 @@ pub enum PtsDts {
 }
 
 impl PtsDts {
+    fn of([kind, pts_number, pts, dts_number, dts]: [u64; 5]) -> PtsDts {
+        let pts = PtsDts::inner(pts_number, pts);
+        match kind {
+            1 => PtsDts::PtsOnly(pts),
+            _ => PtsDts::Both { pts, dts: PtsDts::inner(dts_number, dts) },
+        }
+    }
+
     /// A timestamp within an answer: its number, and its value or bit.
     fn inner(number: u64, value: u64) -> Result<Timestamp, Error> {
         match number {
@@ -530,6 +598,15 @@ pub enum DataAlignment {
     NotAligned,
 }
 
+impl DataAlignment {
+    fn of([value]: [u64; 1]) -> DataAlignment {
+        match value {
+            0 => DataAlignment::NotAligned,
+            _ => DataAlignment::Aligned,
+        }
+    }
+}
+
 /// The copyright status of a PES packet.
 #[derive(Clone, Copy, Debug, PartialEq, Eq)]
 pub enum Copyright {
@@ -537,6 +614,15 @@ pub enum Copyright {
     Protected,
     /// The bit is 1. The standard gives the two bits the other meanings; this is what mpeg2ts-reader gives.
     Undefined,
+}
+
+impl Copyright {
+    fn of([value]: [u64; 1]) -> Copyright {
+        match value {
+            0 => Copyright::Protected,
+            _ => Copyright::Undefined,
+        }
+    }
 }
 
 /// The name that [`Copyright`] has in the proved library.
@@ -549,6 +635,15 @@ pub enum OriginalOrCopy {
     Original,
     /// It is a copy.
     Copy,
+}
+
+impl OriginalOrCopy {
+    fn of([value]: [u64; 1]) -> OriginalOrCopy {
+        match value {
+            0 => OriginalOrCopy::Copy,
+            _ => OriginalOrCopy::Original,
+        }
+    }
 }
 
 #[cfg(test)]
