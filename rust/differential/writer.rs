@@ -12,7 +12,7 @@ use crate::written::{ReadBack, Written};
 use mpeg2ts_reader::packet::Packet;
 
 /// A random answer is a unit here. Nothing is recorded: the program that replays knows no units.
-pub const MODULE: Module = Module { name: "writer", count: 200_000, compare, record: |_| () };
+pub const MODULE: Module = Module { name: "writer", count: 120_000, compare, record: |_| () };
 
 const SIZE: usize = Packet::SIZE;
 
