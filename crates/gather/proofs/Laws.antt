@@ -16,7 +16,7 @@ use Rattle.bits.proofs.Parts.{part-rest, part-in, part-cut, part-length, part-o
 use Rattle.pes.specs.declared.ContentsRead.{ContentsRead}
 use Rattle.pes.specs.Stream.{parsedId}
 use Rattle.pes.specs.Head.{headed, idOf, givenContents, readContents, contentsPart}
-use Rattle.pes.proofs.Laws.{headed-done}
+use Rattle.pes.proofs.Laws.{contents-known}
 use Rattle.contents.specs.declared.PartRead.{PartRead}
 use Rattle.contents.specs.Contents.{readPayload}
 use Rattle.contents.specs.Given.{givenPart}
@@ -80,33 +80,24 @@ module _ (xs : List ℕ) where
         own-none (λ z. let f = head-refused _ (pick (parsedId (idOf xs)) (later 6 (readPayload (drop 6 xs))) (contentsPart xs)) refl k in
         let y : readContents xs .number ≡ 0 = ap (λ (a : Answer). a .number) (sym f) ∙ z in omega arith)
 
-  -- what is known where the head is accepted: kind, place and length of what follows it
-  known : (t k p n : ℕ) → answer 0 (k ∷ p ∷ n ∷ []) ≡ headed xs (answer 0 (t ∷ 6 ∷ (length xs - 6) ∷ []))
-      → (6 ≤ length xs) × ((b : Answer) → headed xs b ≡ b) × (k ≡ t) × (p ≡ 6) × (n ≡ length xs - 6)
-  known t k p n f =
-      let h = headed-done xs (answer 0 (t ∷ 6 ∷ (length xs - 6) ∷ [])) (ap (λ (a : Answer). a .number) (sym f)) in
-      let e = f ∙ h .1 (answer 0 (t ∷ 6 ∷ (length xs - 6) ∷ [])) in
-      let v : ℕ → Answer → ℕ = λ i a. getD (a .values) i 0 in
-      (h .0, h .1, ap (v 0) e, ap (v 1) e, ap (v 2) e)
-
   pub belongs-bare : (r : ContentsRead) (p n : ℕ) → r ≡ ContentsRead.Payload p n → givenContents r ≡ readContents xs
       → Own xs p n
   unfolding belongs
   belongs-bare r p n e g =
       let t = parsedId (idOf xs) in
-      let k = known (truth t) 0 p n (sym (ap givenContents e) ∙ g) in
+      let k = contents-known xs 0 p n (sym (ap givenContents e) ∙ g) in
       let f : belongs xs ≡ answer 0 (6 ∷ (length xs - 6) ∷ []) = k .1 _ ∙ rw (is-false t (k .2)) (k .1 _) in
       own-some p n (rw (k .3, k .4) (sym f)) (omega arith)
 
   module _ (r : ContentsRead) (p n : ℕ) (e : r ≡ ContentsRead.Parsed p n) (g : givenContents r ≡ readContents xs) where
     pub parsed-there : (p ≡ 6) × (6 ≤ length xs)
-    parsed-there = let k = known (truth (parsedId (idOf xs))) 1 p n (sym (ap givenContents e) ∙ g) in (k .3, k .0)
+    parsed-there = let k = contents-known xs 1 p n (sym (ap givenContents e) ∙ g) in (k .3, k .0)
 
     belongs-parsed : belongs xs ≡ later 6 (readPayload (drop 6 xs))
     unfolding belongs
     belongs-parsed =
         let t = parsedId (idOf xs) in
-        let k = known (truth t) 1 p n (sym (ap givenContents e) ∙ g) in
+        let k = contents-known xs 1 p n (sym (ap givenContents e) ∙ g) in
         k .1 _ ∙ rw (is-true t (k .2))
 
     module _ (q : PartRead) (f : givenPart q ≡ readPayload (take (length xs - p) (drop p xs))) where

@@ -1,11 +1,11 @@
 -- The gathering store: what a call answers, the state after it, and the store's bytes.
 use mathlib.Core.Path.{_≡_}
 use mathlib.Core.Bool.{Bool, true, false}
-use mathlib.Core.List.{List, [], _∷_}
+use mathlib.Core.List.{List, []}
 use Prim.Native.Nat.{ℕ, _+_}
 use lib.Dec.{eqb, leb, ltb}
 use lib.ListN.{length, getD}
-use Rattle.bits.specs.Answer.{Answer, answer, pick, placedAt, partAt}
+use Rattle.bits.specs.Answer.{pick, placedAt, partAt}
 use Rattle.bits.specs.Numbers.{done, wrongLength, noSync, outOfRange, storeFull}
 use Rattle.log.specs.declared.Event.{Event}
 use Rattle.log.specs.Entry.{startStream, beginPacket, continuePacket, endPacket, continuityError}

@@ -1,6 +1,6 @@
 -- The gathering store over numbers: open 0 or 1; the count; where the bytes lie, a place of the packet or 255 for the store.
 use mathlib.Core.Path.{_≡_}
-use mathlib.Core.Bool.{Bool, true, false}
+use mathlib.Core.Bool.{Bool, true}
 use mathlib.Core.List.{List, [], _∷_}
 use Prim.Native.Nat.{ℕ, _%_}
 use lib.Dec.{ltb, eqb}

@@ -1,6 +1,5 @@
 -- The machine over numbers: phase 0 Begin, 1 Started, 2 IgnoreRest; last counter 0 to 15, or 255 for none.
 use mathlib.Core.Path.{_≡_}
-use mathlib.Core.Bool.{Bool, true, false}
 use mathlib.Core.List.{List}
 use Prim.Native.Nat.{ℕ}
 use lib.Dec.{ltb, eqb}

@@ -94,6 +94,16 @@ module _ (xs : List ℕ) where
     pub accepted : r ≡ HeadRead.Done → (6 ≤ length xs) × ((a : Answer) → headed xs a ≡ a)
     accepted q = headed-done (answer 0 []) (ap (λ (x : Answer). x .number) (sym e ∙ ap givenHead q))
 
+-- what is known where `contents` accepts the head: that it is accepted, and kind, place and length of what follows it
+pub contents-known : (xs : List ℕ) (k p n : ℕ) → answer 0 (k ∷ p ∷ n ∷ []) ≡ readContents xs
+    → (6 ≤ length xs) × ((b : Answer) → headed xs b ≡ b) × (k ≡ truth (parsedId (idOf xs))) × (p ≡ 6) × (n ≡ length xs - 6)
+contents-known xs k p n f =
+    let t = answer 0 (truth (parsedId (idOf xs)) ∷ 6 ∷ (length xs - 6) ∷ []) in
+    let h = headed-done xs t (ap (λ (a : Answer). a .number) (sym f)) in
+    let e = f ∙ h .1 t in
+    let v : ℕ → Answer → ℕ = λ i a. getD (a .values) i 0 in
+    (h .0, h .1, ap (v 0) e, ap (v 1) e, ap (v 2) e)
+
 -- ---- what is read of the head
 
 module _ (xs : List ℕ) (h : (a : Answer) → headed xs a ≡ a) where

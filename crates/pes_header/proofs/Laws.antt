@@ -5,13 +5,13 @@ use mathlib.Core.Bool.{Bool, true, false}
 use mathlib.Core.List.{List, [], _∷_}
 use Prim.Native.Nat.{ℕ, _-_, _<_}
 use native.Mathlib.Omega.{arith}
-use lib.ListN.{length, getD}
+use lib.ListN.{length}
 use Rattle.bits.specs.Answer.{Answer, answer, truth, pick, partOf}
 use Rattle.bits.proofs.Parts.{part-refused}
 use Rattle.pes.specs.declared.ContentsRead.{ContentsRead}
 use Rattle.pes.specs.Stream.{parsedId}
-use Rattle.pes.specs.Head.{headed, idOf, givenContents, readContents, contentsPart}
-use Rattle.pes.proofs.Laws.{headed-done}
+use Rattle.pes.specs.Head.{idOf, givenContents, readContents, contentsPart}
+use Rattle.pes.proofs.Laws.{headed-done, contents-known}
 use Rattle.contents.specs.Contents.{readPayload}
 use Rattle.pes_header.specs.Payload.{parsedBytes, payloadBytes}
 
@@ -43,11 +43,7 @@ module _ (xs : List ℕ) (r s : ContentsRead) (q : r ≡ s) (g : givenContents r
 
   -- the kind that an accepted head gives is that of its id
   kind-is : (k p n : ℕ) → givenContents s ≡ answer 0 (k ∷ p ∷ n ∷ []) → k ≡ truth (parsedId (idOf xs))
-  kind-is k p n e =
-      let t = answer 0 (truth (parsedId (idOf xs)) ∷ 6 ∷ (length xs - 6) ∷ []) in
-      let f : answer 0 (k ∷ p ∷ n ∷ []) ≡ headed xs t = sym e ∙ answered in
-      let d = headed-done xs t (ap (λ (a : Answer). a .number) (sym f)) in
-      ap (λ (a : Answer). getD (a .values) 0 0) (f ∙ d .1 t)
+  kind-is k p n e = contents-known xs k p n (sym e ∙ answered) .2
 
   pub bare-part : (p n : ℕ) → s ≡ ContentsRead.Payload p n → [] ≡ parsedBytes xs
   unfolding parsedBytes

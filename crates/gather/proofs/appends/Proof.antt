@@ -5,7 +5,6 @@ use mathlib.Core.List.{List}
 use Prim.Native.Nat.{ℕ, _+_, _-_, _≤_, _<_}
 use native.Mathlib.Numerals.{add-one}
 use native.Mathlib.Omega.{arith}
-use lib.Dec.{leb}
 use lib.ListN.{length, length-set, getD, take, set}
 use lib.Seq.{paste, paste-zero, paste-suc, take-paste, getD-take}
 use borrow.Author.Tests.{le-leb, lt-leb}
