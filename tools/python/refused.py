@@ -66,12 +66,13 @@ def edit_files(names):
 # ---- what the prover said
 
 
-def own_refusal(log, crate, dies):
-    """What the prover first said against the proof of a function, or against a file under proofs/; None where nothing."""
+def own_refusal(log, crate, dies, passed_over=FOLLOWS + SHAPE):
+    """What the prover first said against the proof of a function, or against a file under proofs/; None where nothing but what is passed
+    over."""
     place = f"proofs/{dies}" if dies.endswith(".antt") else f"proofs/{dies.replace('::', '/')}/Proof.antt"
     for line in log.splitlines():
         where, found, said = line.partition(": error: ")
-        if found and re.sub(r":\d+:\d+$", "", where).endswith("/" + place) and not any(text in said for text in FOLLOWS + SHAPE):
+        if found and re.sub(r":\d+:\d+$", "", where).endswith("/" + place) and not any(text in said for text in passed_over):
             return said
         # A proof that the prover makes by itself, and no longer finds.
         if line.startswith(f"fn {crate}::{dies}: no proof") and "does not close" in line:
@@ -88,6 +89,8 @@ def judge(crate, where, wrongs, log, telling):
             refused += 1
             if telling:
                 print(f"{crate}/{wrong.name}: refused in {wrong.dies}: {said[:90]}")
+        elif wrong.dies and own_refusal(log, crate, wrong.dies, FOLLOWS):
+            print(f"{crate}/{wrong.name}: REFUSED FOR ITS SHAPE ALONE, in {wrong.dies} ({where})")
         else:
             print(f"{crate}/{wrong.name}: NOT REFUSED by the proof of {wrong.dies} ({where})")
     twice = [wrong.name for wrong in wrongs if [other.dies for other in wrongs].count(wrong.dies) > 1]
