@@ -312,9 +312,9 @@ fn trick(t: DsmTrickMode) -> Four
 }
 
 // contents::dsm_trick_mode: kind 0 fast forward and kind 3 fast reverse, each with field id, intra slice refresh and frequency truncation
-// (which coefficients may be non-zero: 0 DC only, 1 the first three, 2 the first six, 3 all); kind 1 slow motion and kind 4 slow reverse,
-// each with the repeat count; kind 2 freeze frame, with field id and reserved bits; kind 5 reserved, with its bits. A number that a kind
-// does not have is 0.
+// (which coefficients may be non-zero: 0 DC only, 1 the first three, 2 the first six, 3 all); kind 2 freeze frame, with field id and
+// reserved bits; kind 1 slow motion, kind 4 slow reverse and kind 5 a reserved mode, each with the control number as the original gives
+// it, and not with the five bits after it, which cmv_pes_contents_raw_trick_mode has. A number that a kind does not have is 0.
 #[no_mangle]
 pub extern "C" fn cmv_pes_contents_dsm_trick_mode(
     buf: &[u8],
