@@ -1,3 +1,4 @@
 pub mod Belongs
 pub mod Gather
+pub mod Row
 pub mod Units

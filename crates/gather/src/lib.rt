@@ -15,6 +15,8 @@ use contents::PartRead;
 use log::Event;
 use pes::ContentsRead;
 
+pub mod row;
+
 // Where the bytes so far lie: in the packet of the begin, at a place, or in the store, from its start on. After a begin they stand in
 // the store too.
 pub enum Lies {

@@ -1,51 +1,30 @@
 -- The crate's theorems that belong to no one function: any two words, and any numbers left, that meet an entry's promise are equal.
 -- Assumes nothing.
 use mathlib.Core.Path.{_≡_, sym, ap, _∙_}
+use mathlib.Core.List.{List}
 use Prim.Native.Nat.{ℕ}
-use lib.Dec.{eqb}
-use Rattle.bits.specs.Answer.{pick}
-use Rattle.bits.specs.Numbers.{done}
-use Rattle.machine.specs.Step.{Outcome}
-use Rattle.gather.specs.Gather as gather
-use Rattle.host_streams.specs.Machines.{Advanced, Left}
-use Rattle.host_streams.specs.Gatherings.{moves, Moved}
+use Rattle.machine.specs.Row.{RowStep, rowStep, RowRun, rowRun}
+use Rattle.gather.specs.Row.{RowGather, rowGather}
 
--- numbers that words choose alike, where the words are equal
-same : (f : ℕ → ℕ) {v w x y : ℕ} → v ≡ w → x ≡ f v → y ≡ f w → x ≡ y
-same f e p q = p ∙ (ap f e ∙ sym q)
+-- a step over a row, and a run: the word, the numbers left and the log
+pub one-step : (o : RowStep) (v w : ℕ) (x y l k : List ℕ) → rowStep v x l ≡ o → rowStep w y k ≡ o → (v ≡ w) × (x ≡ y) × (l ≡ k)
+one-step o v w x y l k g h =
+    let e : rowStep v x l ≡ rowStep w y k = g ∙ sym h in
+    (ap (λ (r : RowStep). r .number) e, ap (λ (r : RowStep). r .row) e, ap (λ (r : RowStep). r .log) e)
 
--- a step
-pub one-advanced : (o : Outcome) (p l t a v p′ l′ t′ a′ w p″ l″ t″ a″ : ℕ) → Advanced o p l t a v p′ l′ t′ a′
-    → Advanced o p l t a w p″ l″ t″ a″ → (v ≡ w) × (p′ ≡ p″) × (l′ ≡ l″) × (t′ ≡ t″) × (a′ ≡ a″)
-one-advanced o p l t a v p′ l′ t′ a′ w p″ l″ t″ a″ g h =
-    let e : v ≡ w = g .number ∙ sym (h .number) in
-    let at : (x y : ℕ) → ℕ → ℕ = λ x y n. pick (eqb n done) x y in (
-      e,
-      same (at _ p) e (g .phase) (h .phase),
-      same (at _ l) e (g .last) (h .last),
-      same (at _ t) e (g .taken) (h .taken),
-      same (at _ a) e (g .place) (h .place),
+pub one-run : (o : RowRun) (v w t u d e : ℕ) (x y l k : List ℕ) → rowRun v x l t d ≡ o → rowRun w y k u e ≡ o
+    → (v ≡ w) × (x ≡ y) × (l ≡ k) × (t ≡ u) × (d ≡ e)
+one-run o v w t u d e x y l k g h =
+    let f : rowRun v x l t d ≡ rowRun w y k u e = g ∙ sym h in (
+      ap (λ (r : RowRun). r .number) f,
+      ap (λ (r : RowRun). r .row) f,
+      ap (λ (r : RowRun). r .log) f,
+      ap (λ (r : RowRun). r .taken) f,
+      ap (λ (r : RowRun). r .ended) f,
     )
 
--- a run
-pub one-left : (o : Outcome) (p l v p′ l′ t′ a′ w p″ l″ t″ a″ : ℕ) → Left o p l v p′ l′ t′ a′ → Left o p l w p″ l″ t″ a″
-    → (v ≡ w) × (p′ ≡ p″) × (l′ ≡ l″) × (t′ ≡ t″) × (a′ ≡ a″)
-one-left o p l v p′ l′ t′ a′ w p″ l″ t″ a″ g h = (
-  g .number ∙ sym (h .number),
-  g .phase ∙ sym (h .phase),
-  g .last ∙ sym (h .last),
-  g .taken ∙ sym (h .taken),
-  g .place ∙ sym (h .place),
-)
-
--- an event of the gathering store
-pub one-moved : (r : gather.Outcome) (o n l v o′ n′ l′ w o″ n″ l″ : ℕ) → Moved r o n l v o′ n′ l′ → Moved r o n l w o″ n″ l″
-    → (v ≡ w) × (o′ ≡ o″) × (n′ ≡ n″) × (l′ ≡ l″)
-one-moved r o n l v o′ n′ l′ w o″ n″ l″ g h =
-    let e : v ≡ w = g .number ∙ sym (h .number) in
-    let at : (x y : ℕ) → ℕ → ℕ = λ x y k. pick (moves k) x y in (
-      e,
-      same (at _ o) e (g .opened) (h .opened),
-      same (at _ n) e (g .count) (h .count),
-      same (at _ l) e (g .lies) (h .lies),
-    )
+-- an event of the gathering store: the word, the numbers left and the store
+pub one-gathered : (o : RowGather) (v w : ℕ) (x y s t : List ℕ) → rowGather v x s ≡ o → rowGather w y t ≡ o → (v ≡ w) × (x ≡ y) × (s ≡ t)
+one-gathered o v w x y s t g h =
+    let e : rowGather v x s ≡ rowGather w y t = g ∙ sym h in
+    (ap (λ (r : RowGather). r .number) e, ap (λ (r : RowGather). r .row) e, ap (λ (r : RowGather). r .store) e)

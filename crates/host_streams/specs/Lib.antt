@@ -1,3 +1,1 @@
-pub mod Gatherings
-pub mod Machines
 pub mod Writing

@@ -1,11 +1,11 @@
-// The event machine and its log. The host keeps a state as four numbers and lends them: phase 0, 1, 2 for Begin, Started and
-// IgnoreRest; the last counter or 255 for none; the packets taken so far; and the next free place of the log.
+// The event machine and its log. The host keeps a state as a row of numbers and lends it (machine::row).
 ghost use mathlib.Core.Path.{_≡_};
 ghost use mathlib.Core.List.{[], _∷_};
 ghost use Rattle.log.specs.Entry.{readEntry};
 ghost use Rattle.machine.specs.Step.{verdictNumber};
 ghost use Rattle.host.specs.Told.{Told};
-ghost use Rattle.host_streams.specs.Machines.{phaseOf, lastOf, phaseNumber, lastNumber, hostStep, hostLog, Advanced, hostRun, Left};
+ghost use Rattle.machine.specs.Row.{rowStep, rowStepOf, rowRun, rowRunOf};
+use crate::strayed;
 use host::numbers::DONE;
 use host::numbers::INDEX_FULL;
 use host::numbers::LOG_FULL;
@@ -13,52 +13,9 @@ use host::numbers::NO_SYNC;
 use host::numbers::OUT_OF_RANGE;
 use host::numbers::WRONG_LENGTH;
 use log::EntryRead;
-use machine::Last;
-use machine::Machine;
-use machine::Phase;
 use machine::Verdict;
-
-fn phase_of(p: u8) -> Phase
-    ensures { λ r. ⌜ r ≡ phaseOf p ⌝ }
-{
-    match p {
-        0 => Phase::Begin,
-        1 => Phase::Started,
-        _ => Phase::IgnoreRest,
-    }
-}
-
-// A phase number that stands for no state becomes a counter that no state has, so that 1, 2 and 14 come in order with no second test.
-fn last_of(p: u8, l: u8) -> Last
-    ensures { λ r. ⌜ r ≡ lastOf p l ⌝ }
-{
-    if 2 < p {
-        return Last::At(16);
-    }
-    if l == 255 {
-        return Last::Nothing;
-    }
-    Last::At(l)
-}
-
-fn phase_number(p: Phase) -> u8
-    ensures { λ r. ⌜ r ≡ phaseNumber p ⌝ }
-{
-    match p {
-        Phase::Begin => 0,
-        Phase::Started => 1,
-        Phase::IgnoreRest => 2,
-    }
-}
-
-fn last_number(l: Last) -> u8
-    ensures { λ r. ⌜ r ≡ lastNumber l ⌝ }
-{
-    match l {
-        Last::Nothing => 255,
-        Last::At(c) => c,
-    }
-}
+use machine::row;
+use machine::row::RowRead;
 
 fn number_of(v: Verdict) -> u32
     ensures { λ r. ⌜ r ≡ verdictNumber v ⌝ }
@@ -73,85 +30,60 @@ fn number_of(v: Verdict) -> u32
     }
 }
 
-// machine::step over a lent state
+// machine::step over a lent row
 #[no_mangle]
-pub extern "C" fn cmv_machine_step(
-    phase: &mut u8,
-    last: &mut u8,
-    taken: &mut u32,
-    place: &mut usize,
-    packet: &[u8],
-    log: &mut [u8],
-) -> u32
-    ensures { λ r. ⌜ Advanced (hostStep (now (phase .entry)) (now (last .entry)) (now (taken .entry)) (now (place .entry)) (now (packet .entry)) (now (log .entry)))
-        (now (phase .entry)) (now (last .entry)) (now (taken .entry)) (now (place .entry)) r (now (phase .exit)) (now (last .exit)) (now (taken .exit)) (now (place .exit))
-        × (now (log .exit) ≡ hostLog (now (phase .entry)) (now (last .entry)) (now (taken .entry)) (now (place .entry)) (now (packet .entry)) (now (log .entry))) ⌝ }
+pub extern "C" fn cmv_machine_step(state: &mut [u64; 4], packet: &[u8], log: &mut [u8]) -> u32
+    ensures { λ r. ⌜ rowStep r (now (state .exit)) (now (log .exit))
+        ≡ rowStepOf (now (state .entry)) (now (packet .entry)) (now (log .entry)) ⌝ }
 {
-    let p = *phase;
-    let l = *last;
-    let ph = phase_of(p);
-    let la = last_of(p, l);
-    let m = Machine {
-        phase: ph,
-        last: la,
-        taken: *taken,
-        place: *place,
-    };
-    let r = machine::step(m, packet, log);
-    let v = r.verdict;
-    let number = number_of(v);
-    if number != 0 {
-        return number;
+    match row::read(state) {
+        RowRead::Is(m) => {
+            let s = machine::step(m, packet, log);
+            let v = s.verdict;
+            let number = number_of(v);
+            if number == 0 {
+                let n = s.machine;
+                row::write(n, state);
+            }
+            number
+        }
+        RowRead::Stray => strayed(packet),
     }
-    let n = r.machine;
-    let ph2 = n.phase;
-    let la2 = n.last;
-    *phase = phase_number(ph2);
-    *last = last_number(la2);
-    *taken = n.taken;
-    *place = n.place;
-    0
 }
 
-// machine::run over a lent state: steps over the whole packets of the bytes until one is refused. The state is that after the packets
-// taken, also where the word is a refusal: the packet that `taken` counts next is the refused one.
+// machine::run over a lent row: how many packets were taken, and the number that the next one was refused with, 0 where all were taken
 #[no_mangle]
 pub extern "C" fn cmv_machine_run(
-    phase: &mut u8,
-    last: &mut u8,
-    taken: &mut u32,
-    place: &mut usize,
+    state: &mut [u64; 4],
     bytes: &[u8],
     log: &mut [u8],
+    taken: &mut u64,
+    ended: &mut u64,
 ) -> u32
-    ensures { λ r. ⌜ Left (hostRun (now (phase .entry)) (now (last .entry)) (now (taken .entry)) (now (place .entry)) (now (bytes .entry)) (now (log .entry)) .answer)
-        (now (phase .entry)) (now (last .entry)) r (now (phase .exit)) (now (last .exit)) (now (taken .exit)) (now (place .exit))
-        × (now (log .exit) ≡ hostRun (now (phase .entry)) (now (last .entry)) (now (taken .entry)) (now (place .entry)) (now (bytes .entry)) (now (log .entry)) .log) ⌝ }
+    ensures { λ r. ⌜ rowRun r (now (state .exit)) (now (log .exit)) (now (taken .exit)) (now (ended .exit))
+        ≡ rowRunOf (now (state .entry)) (now (bytes .entry)) (now (log .entry)) (now (taken .entry)) (now (ended .entry)) ⌝ }
 {
-    let p = *phase;
-    let l = *last;
-    let ph = phase_of(p);
-    let la = last_of(p, l);
-    let m = Machine {
-        phase: ph,
-        last: la,
-        taken: *taken,
-        place: *place,
-    };
-    let r = machine::run(m, bytes, log);
-    let v = r.verdict;
-    let number = number_of(v);
-    let n = r.machine;
-    *taken = n.taken;
-    *place = n.place;
-    if 2 < p {
-        return number;
+    match row::read(state) {
+        RowRead::Is(m) => {
+            let r = machine::run(m, bytes, log);
+            let v = r.verdict;
+            let number = number_of(v);
+            if number == 0 {
+                let n = r.machine;
+                let e = r.ended;
+                row::write(n, state);
+                *taken = r.packets as u64;
+                *ended = number_of(e) as u64;
+            }
+            number
+        }
+        RowRead::Stray => {
+            if bytes.len() % 188 != 0 {
+                return WRONG_LENGTH;
+            }
+            OUT_OF_RANGE
+        }
     }
-    let ph2 = n.phase;
-    let la2 = n.last;
-    *phase = phase_number(ph2);
-    *last = last_number(la2);
-    number
 }
 
 // log::entry_at

@@ -1,0 +1,7 @@
+use Rattle.gather.proofs.Rows.{row-is}
+use borrow.Author.Needs.{needs}
+use Rattle.gather.proofs.row.write.Statement.{statement}
+use Rattle.gather.proofs.row.write.Tie as tie
+
+pub write-spec : {M : Type 1} → statement M
+write-spec = tie.close (tie.spec (λ c. search needs) (λ c κs. search needs) (λ c. row-is _ _ (c .before .lies-number .ensures)))

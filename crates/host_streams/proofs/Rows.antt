@@ -1,0 +1,132 @@
+-- What the entries over a row tell, in each case.
+-- Assumes nothing.
+use mathlib.Core.Path.{_≡_, refl, sym, ap, _∙_}
+use mathlib.Core.Bool.{Bool, true, false}
+use mathlib.Core.List.{List, [], _∷_}
+use Prim.Native.Nat.{ℕ}
+use lib.Dec.{eqb}
+use lib.ListN.{length, getD}
+use borrow.Author.Tests.{eq-eqb, ne-eqb, eqb-true}
+use Rattle.bits.specs.Answer.{Answer, answer, pick}
+use Rattle.machine.specs.declared.Machine.{Machine}
+use Rattle.machine.specs.declared.row.RowRead.{RowRead}
+use Rattle.machine.specs.declared.row.RowRead.the-variants.{Is, Stray}
+use Rattle.machine.specs.Step.{other, judged, Outcome, stepOf, logOf}
+use Rattle.machine.specs.Run.{runJudged, Reported, reportOf, ranLog}
+use Rattle.machine.specs.Row.{machineOf, rowOf, stepBy, rowStep, rowStepOf, runBy, rowRun, rowRunOf}
+use Rattle.log.specs.declared.Event.{Event}
+use Rattle.host.specs.Told.{Told}
+use Rattle.host.proofs.Laws.{told, told-as}
+use Rattle.gather.specs.declared.Lies.{Lies}
+use Rattle.gather.specs.declared.Gathering.{Gathering}
+use Rattle.gather.specs.declared.HeldRead.{HeldRead}
+use Rattle.gather.specs.declared.row.RowRead as gather-row
+use Rattle.gather.specs.Gather as gather
+use Rattle.gather.specs.Row as store
+
+module _ (r : RowRead) (xs p l : List ℕ) (of : r ≡ machineOf xs) where
+  by : stepBy r xs p l ≡ rowStepOf xs p l
+  unfolding rowStepOf
+  by = ap (λ (t : RowRead). stepBy t xs p l) of
+
+  pub step-strayed : (n : ℕ) → r ≡ Stray → n ≡ judged p true 0 → rowStep n xs l ≡ rowStepOf xs p l
+  step-strayed n e f = ap (λ (k : ℕ). rowStep k xs l) f ∙ (ap (λ (t : RowRead). stepBy t xs p l) (sym e) ∙ by)
+
+  module _ (m : Machine) (e : r ≡ Is m) (o : Outcome) (l′ : List ℕ) (n : ℕ) (f : o ≡ stepOf m p l) (g : l′ ≡ logOf m p l) (h : n ≡ o .number) where
+    at-all : (xs′ : List ℕ) → xs′ ≡ pick (eqb n 0) (rowOf (o .machine)) xs → rowStep n xs′ l′ ≡ rowStepOf xs p l
+    at-all xs′ k = rw (k, h, f, g) (ap (λ (t : RowRead). stepBy t xs p l) (sym e) ∙ by)
+
+    pub step-refused : (n ≡ 0 → ⊥) → rowStep n xs l′ ≡ rowStepOf xs p l
+    step-refused z = at-all xs (simp (ne-eqb n 0 z))
+
+    pub step-taken : (xs′ : List ℕ) → n ≡ 0 → xs′ ≡ rowOf (o .machine) → rowStep n xs′ l′ ≡ rowStepOf xs p l
+    step-taken xs′ z k = at-all xs′ (simp (eq-eqb n 0 z) k)
+
+module _ (r : RowRead) (xs bs l : List ℕ) (t e : ℕ) (of : r ≡ machineOf xs) where
+  run-by : runBy r xs bs l t e ≡ rowRunOf xs bs l t e
+  unfolding rowRunOf
+  run-by = ap (λ (a : RowRead). runBy a xs bs l t e) of
+
+  pub run-strayed : (n : ℕ) → r ≡ Stray → n ≡ runJudged bs true → rowRun n xs l t e ≡ rowRunOf xs bs l t e
+  run-strayed n q f = ap (λ (k : ℕ). rowRun k xs l t e) f ∙ (ap (λ (a : RowRead). runBy a xs bs l t e) (sym q) ∙ run-by)
+
+  module _ (m : Machine) (q : r ≡ Is m) (o : Reported) (l′ : List ℕ) (n : ℕ) (f : o ≡ reportOf m bs l) (g : l′ ≡ ranLog m bs l) (h : n ≡ o .number) where
+    ran-all : pick (eqb n 0) (rowRun 0 (rowOf (o .machine)) l′ (o .packets) (o .ended)) (rowRun n xs l′ t e) ≡ rowRunOf xs bs l t e
+    ran-all = rw (h, f, g) (ap (λ (a : RowRead). runBy a xs bs l t e) (sym q) ∙ run-by)
+
+    pub run-done : (xs′ : List ℕ) (k d : ℕ) → n ≡ 0 → xs′ ≡ rowOf (o .machine) → k ≡ o .packets → d ≡ o .ended → rowRun n xs′ l′ k d ≡ rowRunOf xs bs l t e
+    run-done xs′ k d z a b c = rw (z, a, b, c) (simp (eq-eqb n 0 z) at ran-all)
+
+    pub run-refused : (n ≡ 0 → ⊥) → rowRun n xs l′ t e ≡ rowRunOf xs bs l t e
+    run-refused z = simp (ne-eqb n 0 z) at ran-all
+
+-- ---- the gathering store
+
+-- a row that stands for nothing is refused alike by both: 1, 2, 14
+judged-alike : (p : List ℕ) → judged p true 0 ≡ gather.judged p false 0
+unfolding judged
+judged-alike p = go (eqb (length p) 188) (eqb (getD p 0 0) 0x47)
+  where
+    go : (a b : Bool) → _≡_ {A = ℕ} (pick (pick a false true) 1 (pick (pick b false true) 2 14)) (pick a (pick b 14 2) 1)
+    go true true = refl
+    go true false = refl
+    go false b = refl
+
+module _ (r : gather-row.RowRead) (xs p : List ℕ) (v : Event) (s : List ℕ) (of : r ≡ store.gatheringOf xs) where
+  gathered-by : store.gatherBy r xs p v s ≡ store.rowGatherOf xs p v s
+  unfolding store.rowGatherOf
+  gathered-by = ap (λ (t : gather-row.RowRead). store.gatherBy t xs p v s) of
+
+  pub gather-strayed : (n : ℕ) → r ≡ gather-row.RowRead.Stray → n ≡ judged p true 0 → store.rowGather n xs s ≡ store.rowGatherOf xs p v s
+  gather-strayed n e f =
+      ap (λ (k : ℕ). store.rowGather k xs s) (f ∙ judged-alike p) ∙ (ap (λ (t : gather-row.RowRead). store.gatherBy t xs p v s) (sym e) ∙ gathered-by)
+
+  module _ (g : Gathering) (e : r ≡ gather-row.RowRead.Is g) (o : gather.Outcome) (s′ : List ℕ) (n : ℕ) (f : o ≡ gather.gatherOf g p v s) (k : s′ ≡ gather.storeOf g p v s)
+      (h : n ≡ o .number) where
+    at-each : (xs′ : List ℕ) → xs′ ≡ pick (store.moves n) (store.rowOf (o .gathering)) xs → store.rowGather n xs′ s′ ≡ store.rowGatherOf xs p v s
+    at-each xs′ q = rw (q, h, f, k) (ap (λ (t : gather-row.RowRead). store.gatherBy t xs p v s) (sym e) ∙ gathered-by)
+
+    module _ (b : Bool) (d : b ≡ store.moves n) where
+      pub gather-stays : b ≡ false → store.rowGather n xs s′ ≡ store.rowGatherOf xs p v s
+      gather-stays z = at-each xs (simp (sym d ∙ z))
+
+      pub gather-moves : (xs′ : List ℕ) → b ≡ true → xs′ ≡ store.rowOf (o .gathering) → store.rowGather n xs′ s′ ≡ store.rowGatherOf xs p v s
+      gather-moves xs′ z q = at-each xs′ (simp (sym d ∙ z) q)
+
+-- .. and told by its number alone
+strayed-told : (p : List ℕ) {lent : List ℕ} → Told (answer (judged p true 0) []) (judged p true 0) lent lent
+unfolding judged
+strayed-told p {lent} = go (other (length p) 188) (other (getD p 0 0) 0x47)
+  where
+    go : (a b : Bool) → let n : ℕ = pick a 1 (pick b 2 14) in Told (answer n []) n lent lent
+    go true b = told (refl, refl)
+    go false true = told (refl, refl)
+    go false false = told (refl, refl)
+
+module _ (r : gather-row.RowRead) (xs p s : List ℕ) (of : r ≡ store.gatheringOf xs) where
+  held-by : store.heldBy r p s ≡ store.rowHeld xs p s
+  unfolding store.rowHeld
+  held-by = ap (λ (t : gather-row.RowRead). store.heldBy t p s) of
+
+  pub held-strayed : {w : ℕ} {lent : List ℕ} → r ≡ gather-row.RowRead.Stray → w ≡ judged p true 0 → Told (store.rowHeld xs p s) w lent lent
+  held-strayed {w} e f =
+      let q : store.rowHeld xs p s ≡ answer (judged p true 0) []
+      = sym (ap (λ (k : ℕ). answer k []) (judged-alike p) ∙ (ap (λ (t : gather-row.RowRead). store.heldBy t p s) (sym e) ∙ held-by)) in
+      rw f (told-as q (strayed-told p))
+
+  -- the answer of a state by what its bytes' reading gives
+  module _ (g : Gathering) (e : r ≡ gather-row.RowRead.Is g) (h : HeldRead) (f : gather.givenHeld h ≡ gather.readOf g p s) where
+    pub held-told : (k : HeldRead) {w : ℕ} {lent left : List ℕ} → h ≡ k
+        → Told (pick (eqb (gather.givenHeld k) 0) (answer 0 (store.partValues (g .lies) (g .count))) (answer (gather.givenHeld k) [])) w lent left
+        → Told (store.rowHeld xs p s) w lent left
+    held-told k q t =
+        told-as (sym (ap (λ (z : ℕ). pick (eqb z 0) (answer 0 (store.partValues (g .lies) (g .count))) (answer z [])) (ap gather.givenHeld (sym q) ∙ f)
+        ∙ (ap (λ (t : gather-row.RowRead). store.heldBy t p s) (sym e) ∙ held-by))) t
+
+    -- the bytes of a packet, and those of a store
+    module _ (x y z : ℕ) (q : h ≡ HeldRead.Done) where
+      pub held-in-packet : (a : ℕ) → g .lies ≡ Lies.Packet a → Told (store.rowHeld xs p s) 0 (x ∷ y ∷ z ∷ []) (0 ∷ a ∷ g .count ∷ [])
+      held-in-packet a e = held-told HeldRead.Done q (told (refl, rw e))
+
+      pub held-in-store : g .lies ≡ Lies.Store → Told (store.rowHeld xs p s) 0 (x ∷ y ∷ z ∷ []) (1 ∷ 0 ∷ g .count ∷ [])
+      held-in-store e = held-told HeldRead.Done q (told (refl, rw e))

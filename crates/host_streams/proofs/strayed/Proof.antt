@@ -1,0 +1,14 @@
+use mathlib.Core.Path.{refl}
+use Rattle.machine.proofs.Laws.{judged-length, judged-sync, judged-state}
+use borrow.Author.Needs.{needs}
+use Rattle.host_streams.proofs.strayed.Statement.{statement}
+use Rattle.host_streams.proofs.strayed.Tie as tie
+
+pub strayed-spec : {M : Type 1} → statement M
+strayed-spec =
+    tie.close
+    (tie.spec
+    (λ c. search (judged-length, needs))
+    (λ c. search needs)
+    (λ c. search (judged-sync, needs))
+    (λ c. judged-state _ _ _ (search needs) (search needs) refl))

@@ -1,0 +1,96 @@
+-- A machine as the numbers that a host keeps, in this order: phase 0 Begin, 1 Started, 2 IgnoreRest; last counter 0 to 15, or 255 for
+-- none; packets taken; next free place of the log.
+use mathlib.Core.Bool.{Bool, true, false}
+use mathlib.Core.List.{List, [], _∷_}
+use Prim.Native.Nat.{ℕ}
+use lib.Dec.{eqb, ltb}
+use lib.ListN.{getD}
+use Rattle.bits.specs.Answer.{pick}
+use Rattle.bits.specs.Numbers.{done}
+use Rattle.machine.specs.declared.Phase.{Phase}
+use Rattle.machine.specs.declared.Phase.the-variants.{Begin, Started, IgnoreRest}
+use Rattle.machine.specs.declared.Last.{Last}
+use Rattle.machine.specs.declared.Last.the-variants.{Nothing, At}
+use Rattle.machine.specs.declared.Machine.{Machine}
+use Rattle.machine.specs.declared.row.RowRead.{RowRead}
+use Rattle.machine.specs.declared.row.RowRead.the-variants.{Is, Stray}
+use Rattle.machine.specs.Step.{judged, stepOf, logOf}
+use Rattle.machine.specs.Run.{runJudged, reportOf, ranLog}
+
+-- ---- each number
+
+abbrev pub phaseOf : ℕ → Phase
+phaseOf n = pick (eqb n 0) Begin (pick (eqb n 1) Started IgnoreRest)
+
+abbrev pub lastOf : ℕ → Last
+lastOf n = pick (eqb n 255) Nothing (At n)
+
+abbrev pub phaseNumber : Phase → ℕ
+phaseNumber Begin = 0
+phaseNumber Started = 1
+phaseNumber IgnoreRest = 2
+
+abbrev pub lastNumber : Last → ℕ
+lastNumber Nothing = 255
+lastNumber (At c) = c
+
+-- ---- the row
+
+-- a number that stands for nothing: a phase above 2, a count above 32 bits, a counter above 15 but for 255
+unfoldable pub strays : List ℕ → Bool
+strays xs =
+    pick (ltb 2 (getD xs 0 0)) true
+    (pick (ltb 4_294_967_295 (getD xs 2 0)) true
+    (pick (eqb (getD xs 1 0) 255) false (ltb 15 (getD xs 1 0))))
+
+-- THE MACHINE THAT A ROW STANDS FOR, if for one
+unfoldable pub machineOf : List ℕ → RowRead
+machineOf xs =
+    pick (strays xs) Stray
+    (Is (record { phase = phaseOf (getD xs 0 0); last = lastOf (getD xs 1 0); taken = getD xs 2 0; place = getD xs 3 0 }))
+
+-- THE ROW OF A MACHINE
+unfoldable pub rowOf : Machine → List ℕ
+rowOf m = phaseNumber (m .phase) ∷ lastNumber (m .last) ∷ m .taken ∷ m .place ∷ []
+
+-- ---- a step over a row: its number, and the row and the log after it
+
+pub record RowStep : Type 0 where
+  pub number : ℕ
+  pub row : List ℕ
+  pub log : List ℕ
+
+abbrev pub rowStep : ℕ → List ℕ → List ℕ → RowStep
+rowStep n xs l = record { number = n; row = xs; log = l }
+
+-- a row that stands for nothing is 14 where a wrong state is; a refusal leaves the row as it was lent
+abbrev pub stepBy : RowRead → List ℕ → List ℕ → List ℕ → RowStep
+stepBy Stray xs p l = rowStep (judged p true done) xs l
+stepBy (Is m) xs p l =
+    rowStep (stepOf m p l .number) (pick (eqb (stepOf m p l .number) done) (rowOf (stepOf m p l .machine)) xs) (logOf m p l)
+
+unfoldable pub rowStepOf : List ℕ → List ℕ → List ℕ → RowStep
+rowStepOf xs p l = stepBy (machineOf xs) xs p l
+
+-- ---- a run over a row: its number, the row and the log after it, and what is told of it
+
+pub record RowRun : Type 0 where
+  pub number : ℕ
+  pub row : List ℕ
+  pub log : List ℕ
+  pub taken : ℕ
+  pub ended : ℕ
+
+abbrev pub rowRun : ℕ → List ℕ → List ℕ → ℕ → ℕ → RowRun
+rowRun n xs l t e = record { number = n; row = xs; log = l; taken = t; ended = e }
+
+-- a refusal leaves all as it was lent
+abbrev pub runBy : RowRead → List ℕ → List ℕ → List ℕ → ℕ → ℕ → RowRun
+runBy Stray xs bs l t e = rowRun (runJudged bs true) xs l t e
+runBy (Is m) xs bs l t e =
+    pick (eqb (reportOf m bs l .number) done)
+    (rowRun done (rowOf (reportOf m bs l .machine)) (ranLog m bs l) (reportOf m bs l .packets) (reportOf m bs l .ended))
+    (rowRun (reportOf m bs l .number) xs (ranLog m bs l) t e)
+
+unfoldable pub rowRunOf : List ℕ → List ℕ → List ℕ → ℕ → ℕ → RowRun
+rowRunOf xs bs l t e = runBy (machineOf xs) xs bs l t e
