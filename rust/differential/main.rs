@@ -7,6 +7,8 @@
 //!     differential events FILE..   compares the events of transport streams, a machine for each PID, and of damaged copies
 //!     differential gather FILE..   compares what is gathered from transport streams, a store for each PID, and from damaged copies
 //!     differential fields FILE     lists what the library reads of each packet of a transport stream
+//!     differential differences [FILE]
+//!                                  holds both sides to what each row of docs/DIFFERENCES.md, or of the file, says
 //!
 //! Exit status: 0 where all agreed; 1 where something differs or was not compared at all; 2 for a wrong command line.
 
@@ -20,6 +22,12 @@ mod contents;
 mod control;
 #[path = "../clomaverift/src/declarations.rs"]
 mod declarations;
+mod differences;
+mod differences_calls;
+mod differences_input;
+mod differences_original;
+mod differences_standard;
+mod differences_whole;
 mod event;
 mod fields;
 mod files;
@@ -76,7 +84,8 @@ const MODULES: [Module; 9] = [
 
 const SEED: u64 = 1;
 const USAGE: &str = "usage: differential [--count N | --times K] [--seed S] [--only MODULE] | differential record DIR \
-    | differential stream FILE.. | differential events FILE.. | differential gather FILE.. | differential fields FILE";
+    | differential stream FILE.. | differential events FILE.. | differential gather FILE.. | differential fields FILE \
+    | differential differences [FILE]";
 
 /// What is compared: with `count` random answers a module, or `times` as many as the module has set.
 struct Options {
@@ -107,6 +116,8 @@ fn run(words: &[String]) -> Option<bool> {
         [word, files @ ..] if word == "events" && !files.is_empty() => Some(machine_stream::compare_files(files)),
         [word, files @ ..] if word == "gather" && !files.is_empty() => Some(gather_stream::compare_files(files)),
         [word, file] if word == "fields" => Some(fields::list(file)),
+        [word] if word == "differences" => Some(differences::check(differences::DOCUMENT)),
+        [word, file] if word == "differences" => Some(differences::check(file)),
         words => Some(compare(&options(words)?)),
     }
 }
