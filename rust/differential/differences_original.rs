@@ -79,7 +79,7 @@ pub fn calls() -> Vec<Call> {
         slice(
             "PesParsedContents::from_bytes",
             EVERY,
-            &["80 00", "C0 00 00", "80 80 05 4×FF", "80 C0 09 9×FF"],
+            &["80 00", "C0 00 00", "80 00 01", "80 08 00"],
             |bytes| format!("{:?}", PesParsedContents::from_bytes(bytes)),
             host::PES_CONTENTS_FROM_BYTES,
         ),
