@@ -1,22 +1,21 @@
 -- What the definitions of `specs/` come to on the bytes, in each case. The functions' proofs cite these, and so do callers'.
 -- Assumes nothing.
-use mathlib.Core.Path.{_≡_, refl, sym, ap, _∙_}
+use mathlib.Core.Path.{_≡_, refl, sym, ap, ap₂, _∙_}
 use mathlib.Core.Bool.{true, false, not}
 use mathlib.Core.List.{List, [], _∷_}
+use mathlib.Core.Logic.{_↔_}
 use Prim.Native.Nat.{ℕ, _+_, _*_, _/_, _%_, _^_, _≤_, _<_}
 use native.Mathlib.Omega.{arith}
 use lib.ListN.{length, getD}
 use lib.Dec.{eqb, ltb}
-use borrow.Author.Tests.{lt-ltb, le-ltb, eq-eqb, ne-eqb}
+use borrow.Author.Tests.{lt-ltb, le-ltb, eq-eqb, ne-eqb, eqb-true}
 use Rattle.bits.specs.Answer.{Answer, answer}
 use Rattle.bits.specs.Field.{bit, field}
 use Rattle.bits.proofs.Fields.{field-split, in-byte}
 use Rattle.bits.proofs.Tests.{limited-in, limited-out, limited-values, limited-value, limited-refused}
 use Rattle.control.specs.declared.ClockRef.{ClockRef}
-use Rattle.control.specs.declared.Scheme.{Scheme}
 use Rattle.control.specs.Clock.{clock, clockValues, clockBase, clockExtension, clockFits, readClock, makeClock, clockNumber}
-use Rattle.control.specs.Clock.{sameClock}
-use Rattle.control.specs.Control.{hasAdaptationField, hasPayload, scrambling, isScrambled, schemeOf, follows, makeCounter, counterOf}
+use Rattle.control.specs.Control.{hasAdaptationField, hasPayload, scrambling, isScrambled, readScheme, follows, makeCounter, counterOf}
 use Rattle.control.specs.Control.{makePid, pidOf}
 
 -- the fourth byte
@@ -37,14 +36,14 @@ module _ (b : ℕ) where
   unfolding isScrambled
   scrambled-is h = ap (λ (n : ℕ). not (eqb n 0)) (sym (scrambling-is h))
 
-  pub scheme-some : (v : ℕ) → (b < 256) × (v ≡ b / 64) × (v ≡ 0 → ⊥) → Scheme.Scrambled v ≡ schemeOf b
-  unfolding schemeOf
+  pub scheme-some : (v : ℕ) → (b < 256) × (v ≡ b / 64) × (v ≡ 0 → ⊥) → answer 0 (1 ∷ v ∷ []) ≡ readScheme b
+  unfolding readScheme
   scheme-some v h =
       let e : scrambling b ≡ v = scrambling-is (h .0) ∙ sym (h .1) in
       simp (e, ne-eqb v 0 (h .2))
 
-  pub scheme-none : (b < 256) × (b / 64 ≡ 0) → Scheme.NotScrambled ≡ schemeOf b
-  unfolding schemeOf
+  pub scheme-none : (b < 256) × (b / 64 ≡ 0) → answer 0 (0 ∷ []) ≡ readScheme b
+  unfolding readScheme
   scheme-none h = simp (eq-eqb (scrambling b) 0 (omega (arith, scrambling-is (h .0))))
 
 pub follows-is : (a b : ℕ) → eqb ((b % 16 + 1) % 16) a ≡ follows a b
@@ -163,11 +162,11 @@ unfolding makePid
 pid-out n h = limited-out n (2 ^ 13) (n ∷ []) h
 
 module _ (a b : ClockRef) where
-  pub same-base : a .base ≡ b .base → eqb (a .extension) (b .extension) ≡ sameClock a b
-  unfolding sameClock
-  same-base h = simp (eq-eqb (a .base) (b .base) h)
+  -- of two clock references with one base the extensions decide
+  pub same-base : a .base ≡ b .base → (eqb (a .extension) (b .extension) ≡ true) ↔ (a ≡ b)
+  same-base h =
+      (λ t. ap₂ clock h (eqb-true (a .extension) (b .extension) t), λ e. eq-eqb (a .extension) (b .extension) (ap (λ (c : ClockRef). c .extension) e))
 
-  -- the answer of `&&` where its first half fails is that half
-  pub other-base : (a .base ≡ b .base → ⊥) → eqb (a .base) (b .base) ≡ sameClock a b
-  unfolding sameClock
-  other-base h = simp (ne-eqb (a .base) (b .base) h)
+  -- two that differ in their base are not the same; the answer of `&&` where its first half fails is that half
+  pub other-base : (a .base ≡ b .base → ⊥) → (eqb (a .base) (b .base) ≡ true) ↔ (a ≡ b)
+  other-base h = (λ t. absurd (h (eqb-true (a .base) (b .base) t)), λ e. absurd (h (ap (λ (c : ClockRef). c .base) e)))

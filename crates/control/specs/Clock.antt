@@ -4,7 +4,7 @@ use mathlib.Core.Bool.{Bool, false}
 use mathlib.Core.List.{List, [], _∷_}
 use Prim.Native.Nat.{ℕ, _+_, _*_, _^_}
 use lib.ListN.{length}
-use lib.Dec.{eqb, ltb}
+use lib.Dec.{ltb}
 use Rattle.bits.specs.Answer.{Answer, answer, pick, limited}
 use Rattle.bits.specs.Field.{field}
 use Rattle.bits.specs.Numbers.{done, wrongLength, outOfRange}
@@ -54,7 +54,3 @@ makeClock b e = limited (clockFits b e) (b ∷ e ∷ [])
 -- the number of a clock reference; 14 for one that no reading and no making gives
 unfoldable pub clockNumber : ℕ → ℕ → Answer
 clockNumber b e = limited (clockFits b e) ((b * 300 + e) ∷ [])
-
--- two clock references are the same where both values are
-unfoldable pub sameClock : ClockRef → ClockRef → Bool
-sameClock a b = pick (eqb (a .base) (b .base)) (eqb (a .extension) (b .extension)) false

@@ -25,9 +25,14 @@ scrambling b = field (b ∷ []) 0 2
 unfoldable pub isScrambled : ℕ → Bool
 isScrambled b = not (eqb (scrambling b) 0)
 
--- the scheme: its number, or none where the packet is not scrambled
-unfoldable pub schemeOf : ℕ → Scheme
-schemeOf b = pick (eqb (scrambling b) 0) Scheme.NotScrambled (Scheme.Scrambled (scrambling b))
+-- not scrambled is kind 0, scrambled kind 1 with the scheme
+abbrev pub givenScheme : Scheme → Answer
+givenScheme Scheme.NotScrambled = answer done (0 ∷ [])
+givenScheme (Scheme.Scrambled s) = answer done (1 ∷ s ∷ [])
+
+-- the scheme that transport_scrambling_control names
+unfoldable pub readScheme : ℕ → Answer
+readScheme b = pick (eqb (scrambling b) 0) (answer done (0 ∷ [])) (answer done (1 ∷ scrambling b ∷ []))
 
 -- a counter has 4 bits, and follows another that is one less, modulo 16
 abbrev pub givenCounter : CounterMade → Answer

@@ -1,8 +1,10 @@
 // The small types of the original's packet.rs: the control bits of a packet's fourth byte, clock references, counters and PIDs.
 ghost use mathlib.Core.Path.{_≡_};
-ghost use Rattle.control.specs.Clock.{givenRead, givenMade, givenNumber, readClock, makeClock, clockNumber, sameClock};
-ghost use Rattle.control.specs.Control.{hasAdaptationField, hasPayload, isScrambled, schemeOf, follows, givenCounter, makeCounter};
-ghost use Rattle.control.specs.Control.{counterOf, givenPid, makePid, pidOf};
+ghost use mathlib.Core.Bool.{true};
+ghost use mathlib.Core.Logic.{_↔_};
+ghost use Rattle.control.specs.Clock.{givenRead, givenMade, givenNumber, readClock, makeClock, clockNumber};
+ghost use Rattle.control.specs.Control.{hasAdaptationField, hasPayload, isScrambled, givenScheme, readScheme, follows};
+ghost use Rattle.control.specs.Control.{givenCounter, makeCounter, counterOf, givenPid, makePid, pidOf};
 use bits::wide;
 
 // The adaptation_field_control bits; the other bits of the byte are kept and not looked at.
@@ -53,7 +55,7 @@ impl TransportScramblingControl {
     }
 
     pub fn scheme(self) -> Scheme
-        ensures { λ r. ⌜ r ≡ schemeOf (self .0) ⌝ }
+        ensures { λ r. ⌜ givenScheme r ≡ readScheme (self .0) ⌝ }
     {
         let scheme = self.0 / 64;
         if scheme == 0 {
@@ -143,7 +145,7 @@ impl ClockRef {
     }
 
     pub fn eq(self, other: ClockRef) -> bool
-        ensures { λ r. ⌜ r ≡ sameClock self other ⌝ }
+        ensures { λ r. ⌜ (r ≡ true) ↔ (self ≡ other) ⌝ }
     {
         self.base == other.base && self.extension == other.extension
     }

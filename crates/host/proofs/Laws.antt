@@ -1,8 +1,9 @@
 -- How an answer comes to be told.
 -- Assumes nothing.
-use mathlib.Core.Path.{_≡_, refl, sym, ap, _∙_}
+use mathlib.Core.Path.{_≡_, refl, sym, ap, ap₂, _∙_}
 use mathlib.Core.Bool.{Bool, true, false}
 use mathlib.Core.List.{List, [], _∷_}
+use mathlib.Core.Logic.{_↔_}
 use Prim.Native.Nat.{ℕ, _+_, _*_}
 use native.Mathlib.Omega.{arith}
 use lib.Dec.{eqb}
@@ -10,15 +11,15 @@ use borrow.Author.Tests.{eq-eqb, ne-eqb, eqb-true}
 use lib.ListN.{length, getD}
 use mir.Val.{boolByte}
 use Rattle.bits.specs.Answer.{Answer, answer, pick, andThen, truth}
+use Rattle.bits.proofs.Tests.{one-truth}
 use Rattle.timestamp.specs.Stamp.{makeStamp, likelyWrapped}
 use Rattle.timestamp.proofs.Laws.{made-value}
 use Rattle.control.specs.declared.ClockRef.{ClockRef}
-use Rattle.control.specs.declared.Scheme.{Scheme}
-use Rattle.control.specs.Clock.{clock, clockValues, makeClock, sameClock}
+use Rattle.control.specs.Clock.{clock, clockValues, makeClock}
 use Rattle.control.proofs.Laws.{clock-made, counter-made}
-use Rattle.control.specs.Control.{makeCounter, follows, isScrambled, scrambling, schemeOf}
+use Rattle.control.specs.Control.{makeCounter, follows, isScrambled, scrambling, readScheme}
 use Rattle.packet.specs.Packet.{sound, readByteFour}
-use Rattle.host.specs.Clocks.{sameAnswer, followsAnswer, scramblingAnswer}
+use Rattle.host.specs.Clocks.{samePair, sameAnswer, followsAnswer, scramblingAnswer}
 use Rattle.host.specs.Stamps.{wrapAnswer}
 use Rattle.host.specs.Told.{Told, word, filled, outs}
 
@@ -82,32 +83,39 @@ wrap-told v s x y l b p q e =
 
 -- ---- clock references, counters and the fourth byte
 
-pub same-told : (b e b′ e′ l : ℕ) (c d : ClockRef) (s : Bool) → answer 0 (clockValues c) ≡ makeClock b e → answer 0 (clockValues d) ≡ makeClock b′ e′ → s ≡ sameClock c d
-    → Told (sameAnswer b e b′ e′) 0 (l ∷ []) (boolByte s ∷ [])
+-- the test of two pairs says just when they are one clock reference
+pub pair-same : (b e b′ e′ : ℕ) → (samePair b e b′ e′ ≡ true) ↔ (clock b e ≡ clock b′ e′)
+unfolding samePair
+pair-same b e b′ e′ =
+    (go (eqb b b′) refl, λ h. simp (eq-eqb b b′ (ap (λ (c : ClockRef). c .base) h), eq-eqb e e′ (ap (λ (c : ClockRef). c .extension) h)))
+  where
+    go : (t : Bool) → eqb b b′ ≡ t → pick t (eqb e e′) false ≡ true → clock b e ≡ clock b′ e′
+    go true h k = ap₂ clock (eqb-true b b′ h) (eqb-true e e′ k)
+    go false h k = let z : _≡_ {A = ℕ} 0 1 = ap truth k in absurd (omega arith)
+
+pub same-told : (b e b′ e′ l : ℕ) (c d : ClockRef) (s : Bool) → answer 0 (clockValues c) ≡ makeClock b e → answer 0 (clockValues d) ≡ makeClock b′ e′
+    → (s ≡ true) ↔ (c ≡ d) → Told (sameAnswer b e b′ e′) 0 (l ∷ []) (boolByte s ∷ [])
 same-told b e b′ e′ l c d s p q h =
-    both-told (clockValues c) (clockValues d) l s (sameClock (clock b e) (clock b′ e′)) p q (rw (clock-made b e c p, clock-made b′ e′ d q) at h)
+    both-told (clockValues c) (clockValues d) l s (samePair b e b′ e′) p q
+    (one-truth (clock b e ≡ clock b′ e′) s (samePair b e b′ e′) (rw (clock-made b e c p, clock-made b′ e′ d q) at h) (pair-same b e b′ e′))
 
 pub follows-told : (a b x y l : ℕ) (f : Bool) → answer 0 (x ∷ []) ≡ makeCounter a → answer 0 (y ∷ []) ≡ makeCounter b → f ≡ follows x y
     → Told (followsAnswer a b) 0 (l ∷ []) (boolByte f ∷ [])
 follows-told a b x y l f p q h =
     both-told (x ∷ []) (y ∷ []) l f (follows a b) p q (rw (counter-made a x p, counter-made b y q) at h)
 
--- the number of a scheme, 0 where there is none
-abbrev schemeNumber : Scheme → ℕ
-schemeNumber Scheme.NotScrambled = 0
-schemeNumber (Scheme.Scrambled n) = n
-
-scheme-is : (b : ℕ) → schemeNumber (schemeOf b) ≡ scrambling b
-unfolding schemeOf
+-- the number of a scheme, 0 where there is none: the value after the kind
+scheme-is : (b : ℕ) → getD (readScheme b .values) 1 0 ≡ scrambling b
+unfolding readScheme
 scheme-is b = go (scrambling b) (eqb (scrambling b) 0) refl
   where
-    go : (n : ℕ) (t : Bool) → eqb n 0 ≡ t → schemeNumber (pick t Scheme.NotScrambled (Scheme.Scrambled n)) ≡ n
+    go : (n : ℕ) (t : Bool) → eqb n 0 ≡ t → getD (pick t (answer 0 (0 ∷ [])) (answer 0 (1 ∷ n ∷ [])) .values) 1 0 ≡ n
     go n true e = sym (eqb-true n 0 e)
     go n false e = refl
 
-pub scrambling-told : (b l m : ℕ) (t : Bool) (s : Scheme) → t ≡ isScrambled b → s ≡ schemeOf b
-    → Told (scramblingAnswer b) 0 (l ∷ m ∷ []) (boolByte t ∷ schemeNumber s ∷ [])
-scrambling-told b l m t s h k = told (refl, rw (h, k, scheme-is b))
+pub scrambling-told : (b l m : ℕ) (t : Bool) (vs : List ℕ) → t ≡ isScrambled b → answer 0 vs ≡ readScheme b
+    → Told (scramblingAnswer b) 0 (l ∷ m ∷ []) (boolByte t ∷ getD vs 1 0 ∷ [])
+scrambling-told b l m t vs h k = told (refl, rw (h, ap (λ (a : Answer). getD (a .values) 1 0) k ∙ scheme-is b))
 
 -- ---- packets
 

@@ -1,14 +1,20 @@
 -- Clock references, counters and control bytes that a host hands over as numbers.
+use mathlib.Core.Bool.{Bool, false}
 use mathlib.Core.List.{[], _∷_}
 use Prim.Native.Nat.{ℕ}
-use Rattle.bits.specs.Answer.{Answer, answer, andThen, truth}
+use lib.Dec.{eqb}
+use Rattle.bits.specs.Answer.{Answer, answer, pick, andThen, truth}
 use Rattle.bits.specs.Numbers.{done}
-use Rattle.control.specs.Clock.{clock, makeClock, sameClock}
+use Rattle.control.specs.Clock.{makeClock}
 use Rattle.control.specs.Control.{makeCounter, follows, hasAdaptationField, hasPayload, isScrambled, scrambling}
+
+-- two pairs of numbers are the same, number by number
+unfoldable pub samePair : ℕ → ℕ → ℕ → ℕ → Bool
+samePair b e b′ e′ = pick (eqb b b′) (eqb e e′) false
 
 -- 14 where one of the pairs is no clock reference, else whether the two are the same
 abbrev pub sameAnswer : ℕ → ℕ → ℕ → ℕ → Answer
-sameAnswer b e b′ e′ = andThen (makeClock b e) (andThen (makeClock b′ e′) (answer done (truth (sameClock (clock b e) (clock b′ e′)) ∷ [])))
+sameAnswer b e b′ e′ = andThen (makeClock b e) (andThen (makeClock b′ e′) (answer done (truth (samePair b e b′ e′) ∷ [])))
 
 -- 14 where one of the numbers is no counter, else whether the first follows the second
 abbrev pub followsAnswer : ℕ → ℕ → Answer

@@ -1,6 +1,7 @@
 use Rattle.host.proofs.Laws.{scrambling-told}
-use mathlib.Core.Path.{sym, _∙_}
-use Rattle.control.specs.declared.Scheme.{Scheme}
+use mathlib.Core.Path.{sym, ap, _∙_}
+use mathlib.Core.List.{[], _∷_}
+use Rattle.control.specs.Control.{givenScheme}
 use borrow.Author.Needs.{needs}
 use Rattle.host.proofs.clocks.tell_scrambling.Statement.{statement}
 use Rattle.host.proofs.clocks.tell_scrambling.Tie as tie
@@ -15,5 +16,5 @@ tell-scrambling-spec =
     (λ c. search needs)
     (λ c. search needs)
     (λ c. search needs)
-    (λ c. scrambling-told _ _ _ _ Scheme.NotScrambled (c .before .before .before .is-scrambled .ensures) (sym (c .enum-told .given .1) ∙ c .before .before .scheme .ensures))
-    (λ c. scrambling-told _ _ _ _ (Scheme.Scrambled _) (c .before .before .before .before .is-scrambled .ensures) (sym (c .before .n .given .1) ∙ c .before .before .before .scheme .ensures)))
+    (λ c. scrambling-told _ _ _ _ (0 ∷ []) (c .before .before .before .is-scrambled .ensures) (ap givenScheme (sym (c .enum-told .given .1)) ∙ c .before .before .scheme .ensures))
+    (λ c. scrambling-told _ _ _ _ (1 ∷ _ ∷ []) (c .before .before .before .before .is-scrambled .ensures) (ap givenScheme (sym (c .before .n .given .1)) ∙ c .before .before .before .scheme .ensures)))
