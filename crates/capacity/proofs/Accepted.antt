@@ -14,7 +14,7 @@ use Rattle.bits.proofs.Fields.{in-byte}
 use Rattle.control.specs.Control.{scrambling}
 use Rattle.packet.specs.Packet.{contentAt}
 use Rattle.packet.proofs.Laws.{sound-is}
-use Rattle.pes.specs.Stream.{streamId, streamValues}
+use Rattle.pes.specs.Stream.{readId}
 use Rattle.machine.specs.Events.{startFlag}
 use Rattle.writer.specs.declared.Unit.{Unit}
 use Rattle.writer.specs.Unit.{dataOf, statedLength}
@@ -78,7 +78,7 @@ header-read u n fit pay =
     let r = rest-given u n fit pay in
     record {
       fields = fields-back u n fit pay;
-      stream-id = h _ ∙ ap (λ (v : ℕ). answer done (streamValues (streamId v))) i;
+      stream-id = h _ ∙ ap readId i;
       bounded = h _ ∙ rw (length-back u n fit pay) (length-by (u .bounded) (3 + dataOf u + n) (omega arith));
       parsed = h _ ∙ rw (i, fit .id-parsed);
       not-scrambled = r .0;

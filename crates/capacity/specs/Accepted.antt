@@ -9,7 +9,7 @@ use Rattle.bits.specs.Answer.{answer, pick, truth}
 use Rattle.bits.specs.Numbers.{done, fieldNotPresent}
 use Rattle.control.specs.Control.{scrambling}
 use Rattle.packet.specs.Packet.{tried, readFlag, errorBit, startBit, priorityBit, readPid, readCounter, readAdaptation, readPayload}
-use Rattle.pes.specs.Stream.{streamId, streamValues}
+use Rattle.pes.specs.Stream.{readId}
 use Rattle.pes.specs.Head.{readStreamId, readLength, readContents}
 use Rattle.contents.specs.Contents.{readFixed, readExtension}
 use Rattle.contents.specs.Contents.{readPayload as readParsed}
@@ -37,7 +37,7 @@ PacketsRead start pid c m (p ∷ ps) = PacketRead start pid c (min 184 m) p × P
 -- a header of a unit with n bytes of payload, from its six bytes on
 pub record HeaderRead (u : Unit) (n : ℕ) (xs : List ℕ) : Type 0 where
   pub fields : HasFields u xs
-  pub stream-id : readStreamId xs ≡ answer done (streamValues (streamId (u .id)))
+  pub stream-id : readStreamId xs ≡ readId (u .id)
   pub bounded : readLength xs ≡ pick (u .bounded) (answer done (1 ∷ (3 + dataOf u + n) ∷ [])) (answer done (0 ∷ []))
   pub parsed : readContents xs ≡ answer done (1 ∷ 6 ∷ (length xs - 6) ∷ [])
   pub not-scrambled : readFixed 2 2 (contents xs) ≡ answer done (0 ∷ [])

@@ -6,7 +6,7 @@ use mathlib.Core.List.{List, [], _∷_}
 use Prim.Native.Nat.{ℕ, _+_, _-_, _*_, _%_, _≤_, _<_}
 use native.Mathlib.Omega.{arith}
 use lib.ListN.{length, getD}
-use lib.Dec.{eqb, leb, ltb}
+use lib.Dec.{eqb, ltb}
 use borrow.Author.Tests.{lt-ltb, le-ltb, le-leb, lt-leb, eq-eqb, ne-eqb, ltb-false}
 use types.Run.{OneOf, miss}
 use denote.Enum.Declared.{tagOf}
@@ -20,34 +20,24 @@ use Rattle.pes.specs.declared.StreamId.the-variants.{EcmStream, EmmStrea
 use Rattle.pes.specs.declared.StreamId.the-variants.{H2221TypeA, H2221TypeB, H2221TypeC, H2221TypeD, H2221TypeE, AncillaryStream}
 use Rattle.pes.specs.declared.StreamId.the-variants.{SlPacketizedStream, FlexMuxStream, MetadataStream, ExtendedStreamId}
 use Rattle.pes.specs.declared.StreamId.the-variants.{ReservedDataStream, ProgramStreamDirectory, Unknown}
-use Rattle.pes.specs.Stream.{streamId, streamValues, isParsed, parsedId}
+use Rattle.pes.specs.Stream.{kindOf, idValues, readId, parsedId}
 use Rattle.pes.specs.declared.HeadRead.{HeadRead}
 use Rattle.pes.specs.Head.{givenHead, headed, readHead, readStreamId, readLength, readContents, idOf, packetLength}
 
--- ---- what an id stands for, over the ranges; at a single id the definition computes
+-- ---- the numbers of an id, over the ranges; at a single id the definition computes
 
 module _ (n : ℕ) where
-  pub unknown : n < 0xBC → Unknown n ≡ streamId n
-  unfolding streamId
-  unknown h = simp (lt-ltb n 0xBC h)
+  pub unknown : n < 0xBC → answer 0 (0 ∷ n ∷ []) ≡ readId n
+  unfolding idValues
+  unknown h = simp (le-leb n 0xBB (omega arith))
 
-  coded : (0xC0 ≤ n) × (n < 0xF0) → pick (leb n 0xDF) (Audio (n % 32)) (Video (n % 32)) ≡ streamId n
-  unfolding streamId
-  coded h =
-      simp (
-        le-ltb n 0xBC (omega arith),
-        ne-eqb n 0xBC (omega arith),
-        ne-eqb n 0xBD (omega arith),
-        ne-eqb n 0xBE (omega arith),
-        ne-eqb n 0xBF (omega arith),
-        le-leb n 0xEF (omega arith),
-      )
+  pub audio : (0xC0 ≤ n) × (n < 0xE0) → answer 0 (0xC0 ∷ n % 32 ∷ []) ≡ readId n
+  unfolding idValues
+  audio h = simp (lt-leb n 0xBB (omega arith), lt-leb n 0xBF (omega arith), le-leb n 0xDF (omega arith))
 
-  pub audio : (0xC0 ≤ n) × (n < 0xE0) → Audio (n % 32) ≡ streamId n
-  audio h = rw (le-leb n 0xDF (omega arith)) at (coded (omega arith))
-
-  pub video : (0xE0 ≤ n) × (n < 0xF0) → Video (n % 32) ≡ streamId n
-  video h = rw (lt-leb n 0xDF (omega arith)) at (coded (omega arith))
+  pub video : (0xE0 ≤ n) × (n < 0xF0) → answer 0 (0xE0 ∷ n % 32 ∷ []) ≡ readId n
+  unfolding idValues
+  video h = simp (lt-leb n 0xBB (omega arith), lt-leb n 0xBF (omega arith), lt-leb n 0xDF (omega arith), le-leb n 0xEF (omega arith))
 
 -- ---- a slice that begins with no head, and one that does
 
@@ -107,9 +97,9 @@ contents-known xs k p n f =
 -- ---- what is read of the head
 
 module _ (xs : List ℕ) (h : (a : Answer) → headed xs a ≡ a) where
-  pub id-done : (s : StreamId) → s ≡ streamId (getD xs 3 0) → getD xs 3 0 < 256 → answer 0 (streamValues s) ≡ readStreamId xs
+  pub id-done : (a : Answer) → a ≡ readId (getD xs 3 0) → getD xs 3 0 < 256 → a ≡ readStreamId xs
   unfolding idOf
-  id-done s e l = sym (h _ ∙ rw (byte-field xs 3 l, e))
+  id-done a e l = e ∙ sym (h _ ∙ ap readId (byte-field xs 3 l))
 
   length-is : getD xs 4 0 < 256 → getD xs 5 0 < 256 → packetLength xs ≡ getD xs 4 0 * 256 + getD xs 5 0
   unfolding packetLength
@@ -131,8 +121,8 @@ module _ (xs : List ℕ) (h : (a : Answer) → headed xs a ≡ a) where
 abbrev others : List ℕ
 others = 1 ∷ 4 ∷ 5 ∷ 9 ∷ 10 ∷ 11 ∷ 12 ∷ 13 ∷ 15 ∷ 16 ∷ 17 ∷ 18 ∷ 19 ∷ 20 ∷ 22 ∷ []
 
-pub parsed : (s : StreamId) → OneOf others (tagOf the-type s) → true ≡ isParsed s
-unfolding isParsed
+pub parsed : (s : StreamId) → OneOf others (tagOf the-type s) → true ≡ parsedId (kindOf s)
+unfolding parsedId
 parsed ProgramStreamMap k = absurd (miss others 0 tt k)
 parsed PrivateStream1 k = refl
 parsed PaddingStream k = absurd (miss others 2 tt k)

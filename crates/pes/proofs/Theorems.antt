@@ -1,6 +1,6 @@
 -- The crate's theorems that belong to no one function: one answer only, which ids carry parsed contents, and where these lie.
 -- Assumes nothing.
-use mathlib.Core.Path.{_≡_, refl}
+use mathlib.Core.Path.{_≡_, refl, ap, _∙_}
 use mathlib.Core.List.{List, [], _∷_}
 use Prim.Native.Nat.{ℕ, _-_, _<_}
 use native.Mathlib.Omega.{arith}
@@ -18,7 +18,7 @@ use Rattle.pes.specs.declared.HeadRead.{HeadRead}
 use Rattle.pes.specs.declared.StreamIdRead.{StreamIdRead}
 use Rattle.pes.specs.declared.LengthRead.{LengthRead}
 use Rattle.pes.specs.declared.ContentsRead.{ContentsRead}
-use Rattle.pes.specs.Stream.{streamId, streamValues, isParsed, parsedId}
+use Rattle.pes.specs.Stream.{streamValues, givenId, kindOf, idValues, readId, parsedId}
 use Rattle.pes.specs.Head.{givenHead, givenStreamId, givenLength, givenContents, contentsPart}
 use Rattle.bits.proofs.Ranges.{agree}
 use Rattle.pes.proofs.Laws.{headed-done}
@@ -96,6 +96,9 @@ idBack-values ReservedDataStream = refl
 idBack-values ProgramStreamDirectory = refl
 idBack-values (Unknown n) = refl
 
+pub one-id : (n : ℕ) (a b : StreamId) → givenId a ≡ readId n → givenId b ≡ readId n → a ≡ b
+one-id n = one-answer givenId (λ s. idBack (value s 0) (value s 1)) idBack-values (readId n)
+
 streamIdBack : Answer → StreamIdRead
 streamIdBack s = byNumber s (StreamIdRead.Done (idBack (value s 0) (value s 1))) StreamIdRead.ShortHeader StreamIdRead.BadStartCode
 
@@ -139,9 +142,12 @@ one-contents = one-answer givenContents contentsBack contentsBack-given
 -- ---- an id carries parsed contents just where what it stands for does
 
 -- each of the 256 ids, computed
-pub parsed-agrees : (n : ℕ) → n < 256 → isParsed (streamId n) ≡ parsedId n
-unfolding isParsed streamId parsedId
-parsed-agrees n h = agree (λ (m : ℕ). isParsed (streamId m)) parsedId 0 256 tt n (omega arith)
+pub kind-agrees : (n : ℕ) → n < 256 → parsedId (getD (idValues n) 0 0) ≡ parsedId n
+unfolding idValues parsedId
+kind-agrees n h = agree (λ (m : ℕ). parsedId (getD (idValues m) 0 0)) parsedId 0 256 tt n (omega arith)
+
+pub parsed-agrees : (n : ℕ) (s : StreamId) → n < 256 → givenId s ≡ readId n → parsedId (kindOf s) ≡ parsedId n
+parsed-agrees n s h e = ap (λ (a : Answer). parsedId (value a 0)) e ∙ kind-agrees n h
 
 -- ---- what follows the head lies within the bytes
 

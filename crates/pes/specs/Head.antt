@@ -6,7 +6,7 @@ use lib.Dec.{eqb, ltb}
 use Rattle.bits.specs.Answer.{Answer, answer, pick, truth}
 use Rattle.bits.specs.Field.{field}
 use Rattle.bits.specs.Numbers.{done, shortHeader, badStartCode}
-use Rattle.pes.specs.Stream.{streamId, streamValues, parsedId}
+use Rattle.pes.specs.Stream.{givenId, readId, parsedId}
 use Rattle.pes.specs.declared.HeadRead.{HeadRead}
 use Rattle.pes.specs.declared.StreamIdRead.{StreamIdRead}
 use Rattle.pes.specs.declared.LengthRead.{LengthRead}
@@ -20,7 +20,7 @@ givenHead HeadRead.ShortHeader = answer shortHeader []
 givenHead HeadRead.BadStartCode = answer badStartCode []
 
 abbrev pub givenStreamId : StreamIdRead → Answer
-givenStreamId (StreamIdRead.Done s) = answer done (streamValues s)
+givenStreamId (StreamIdRead.Done s) = givenId s
 givenStreamId StreamIdRead.ShortHeader = answer shortHeader []
 givenStreamId StreamIdRead.BadStartCode = answer badStartCode []
 
@@ -51,7 +51,7 @@ unfoldable pub idOf : List ℕ → ℕ
 idOf xs = field xs 24 8
 
 abbrev pub readStreamId : List ℕ → Answer
-readStreamId xs = headed xs (answer done (streamValues (streamId (idOf xs))))
+readStreamId xs = headed xs (readId (idOf xs))
 
 -- PES_packet_length: 0 is unbounded
 unfoldable pub packetLength : List ℕ → ℕ

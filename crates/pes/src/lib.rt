@@ -1,7 +1,7 @@
 // The head of a PES packet (`PesHeader` and `StreamId` of the original's pes.rs), read off a slice that begins with it.
 ghost use mathlib.Core.Path.{_≡_};
 ghost use Rattle.bits.specs.Answer.{partOf};
-ghost use Rattle.pes.specs.Stream.{streamId, isParsed};
+ghost use Rattle.pes.specs.Stream.{givenId, kindOf, readId, parsedId};
 ghost use Rattle.pes.specs.Head.{givenHead, givenStreamId, givenLength, givenContents, readHead, readStreamId, readLength};
 ghost use Rattle.pes.specs.Head.{readContents, contentsPart};
 use bits::wide;
@@ -35,7 +35,7 @@ pub enum StreamId {
 
 impl StreamId {
     pub fn from_id(id: u8) -> StreamId
-        ensures { λ r. ⌜ r ≡ streamId id ⌝ }
+        ensures { λ r. ⌜ givenId r ≡ readId id ⌝ }
     {
         match id {
             0xBC => StreamId::ProgramStreamMap,
@@ -66,7 +66,7 @@ impl StreamId {
 
     // Whether parsed contents follow the head; after eight ids it is bare payload.
     pub fn is_parsed(self) -> bool
-        ensures { λ r. ⌜ r ≡ isParsed self ⌝ }
+        ensures { λ r. ⌜ r ≡ parsedId (kindOf self) ⌝ }
     {
         match self {
             StreamId::ProgramStreamMap => false,

@@ -6,18 +6,17 @@ use mathlib.Core.List.{List, [], _∷_, _++_, append-assoc, append-nil}
 use Prim.Native.Nat.{ℕ, zero, suc, _+_, _-_, _*_, _/_, _%_, _^_, _≤_, _<_, min}
 use native.Mathlib.Omega.{arith}
 use native.Mathlib.Nat.{add-zero, mod-eq-of-lt, div-one, not-suc-le-zero}
-use lib.ListN.{length, take, drop, set, replicate, length-append, length-take, length-drop, length-replicate, drop-of-length-le}
+use lib.ListN.{length, getD, take, drop, set, replicate, length-append, length-take, length-drop, length-replicate, drop-of-length-le}
 use lib.ListN.{take-append-drop, replicate-append-replicate}
 use lib.Seq.{take-all, drop-drop, take-at, drop-at, take-append-add, drop-append-add, length-take-le}
 use lib.Dec.{leb, ltb}
 use borrow.Author.Tests.{lt-ltb, le-ltb, lt-leb, le-leb, ltb-true, ltb-false, leb-true, leb-false, ne-eqb}
-use Rattle.bits.specs.Answer.{answer, pick, truth, placedAt}
+use Rattle.bits.specs.Answer.{Answer, answer, pick, truth, placedAt}
 use Rattle.bits.specs.Pack.{Part, joined, bytesOf, number}
 use Rattle.bits.proofs.Packs.{written, length-bytesOf}
 use Rattle.bits.proofs.Parts.{part-rest, placed-none, placed-at, length-placed, placed-append}
-use Rattle.pes.specs.declared.StreamId.{StreamId}
-use Rattle.pes.specs.Stream.{streamId, isParsed, parsedId}
-use Rattle.pes.proofs.Theorems.{parsed-agrees}
+use Rattle.pes.specs.Stream.{readId, parsedId}
+use Rattle.pes.proofs.Theorems.{kind-agrees}
 use Rattle.timestamp.specs.Stamp.{stampBytes}
 use Rattle.timestamp.proofs.Theorems.{stamp-length}
 use Rattle.writer.specs.declared.Route.{Route}
@@ -76,8 +75,8 @@ abbrev pub idTest : ℕ → Bool → Bool
 idTest n b = allOf (leb 0xBC n ∷ parsedId n ∷ pick b true (within 0xE0 0xEF n) ∷ [])
 
 -- what the crate pes answers of an id
-pub parsed-told : (n : ℕ) (s : StreamId) (r t : Bool) → n < 256 → s ≡ streamId n → r ≡ isParsed s → r ≡ t → parsedId n ≡ t
-parsed-told n s r t l e f g = sym (parsed-agrees n l) ∙ (ap isParsed (sym e) ∙ (sym f ∙ g))
+pub parsed-told : (n : ℕ) (vs : List ℕ) (r t : Bool) → n < 256 → answer 0 vs ≡ readId n → r ≡ parsedId (getD vs 0 0) → r ≡ t → parsedId n ≡ t
+parsed-told n vs r t l e f g = sym (kind-agrees n l) ∙ (ap (λ (a : Answer). parsedId (getD (a .values) 0 0)) (sym e) ∙ (sym f ∙ g))
 
 module _ (n : ℕ) (b : Bool) where
   pub id-low : n < 0xBC → false ≡ idTest n b

@@ -16,7 +16,7 @@ returns : tie.Need-returns
 returns c =
     let b = c .before .before .before in
     let l = b .shared-slice-known2 .given 3 .fits in
-    contents-are _ (accepted _ _ (b .before .before .before .from-bytes .ensures) (b .before .enum-told3 .given .1) .1) true (cc (parsed-agrees _ l)) l
+    contents-are _ (accepted _ _ (b .before .before .before .from-bytes .ensures) (b .before .enum-told3 .given .1) .1) true (cc (parsed-agrees _ _ l (c .before .before .from-id .ensures))) l
 
 returns-2 : tie.Need-returns-2
 returns-2 c = refused _ _ (c .before .before .from-bytes .ensures) _ (c .enum-told .given .1) (omega arith) _
@@ -28,7 +28,7 @@ returns-4 : tie.Need-returns-4
 returns-4 c =
     let b = c .before .before .before in
     let l = b .shared-slice-known2 .given 3 .fits in
-    contents-are _ (accepted _ _ (b .before .before .before .from-bytes .ensures) (b .before .enum-told3 .given .1) .1) false (cc (parsed-agrees _ l)) l
+    contents-are _ (accepted _ _ (b .before .before .before .from-bytes .ensures) (b .before .enum-told3 .given .1) .1) false (cc (parsed-agrees _ _ l (c .before .before .from-id .ensures))) l
 
 pub contents-spec : {M : Type 1} → statement M
 contents-spec =
