@@ -1,59 +1,152 @@
--- The bytes of parsed contents, by what `pes::contents` answered, and their payload.
+-- Where the payload of a header lies, by what `pes::contents` and `contents::payload_at` answered.
 -- Assumes nothing.
 use mathlib.Core.Path.{_≡_, refl, sym, ap, _∙_}
 use mathlib.Core.Bool.{Bool, true, false}
 use mathlib.Core.List.{List, [], _∷_}
-use Prim.Native.Nat.{ℕ, _-_, _<_}
+use Prim.Native.Nat.{ℕ, _+_, _-_, _≤_, _<_}
 use native.Mathlib.Omega.{arith}
-use lib.ListN.{length}
-use Rattle.bits.specs.Answer.{Answer, answer, truth, pick, partOf}
-use Rattle.bits.proofs.Parts.{part-refused}
+use types.Run.{OneOf, miss}
+use denote.Enum.Declared.{tagOf}
+use lib.Dec.{eqb, ltb}
+use lib.ListN.{length, getD, take, drop, length-drop}
+use lib.Seq.{drop-drop}
+use borrow.Author.Tests.{eqb-true, eqb-false}
+use Rattle.bits.specs.Answer.{Answer, answer, pick, truth, partOf, Within}
+use Rattle.bits.specs.Field.{field}
+use Rattle.bits.proofs.Parts.{part-rest}
 use Rattle.pes.specs.declared.ContentsRead.{ContentsRead}
 use Rattle.pes.specs.Stream.{parsedId}
-use Rattle.pes.specs.Head.{idOf, givenContents, readContents, contentsPart}
-use Rattle.pes.proofs.Laws.{headed-done, contents-known}
-use Rattle.contents.specs.Contents.{readPayload}
-use Rattle.pes_header.specs.Payload.{parsedBytes, payloadBytes}
+use Rattle.pes.specs.Head.{headed, idOf, givenContents, readContents}
+use Rattle.pes.proofs.Laws.{contents-known}
+use Rattle.contents.specs.declared.PartRead.{PartRead}
+use Rattle.contents.specs.declared.Refusal.{Refusal}
+use Rattle.contents.specs.Contents.{fieldsEnd, payloadAt, guarded, readPayload, readContents as readParsed}
+use Rattle.contents.specs.Given.{refusal, givenPart}
+use Rattle.contents.proofs.Laws.{payload-within}
+use Rattle.pes_header.specs.declared.PayloadRead.{PayloadRead}
+use Rattle.pes_header.specs.Payload.{givenPayload, later, headerPayload}
+use Rattle.pes_header.proofs.PayloadRead.{the-type}
 
-none-kept : (t : Bool) (ys : List ℕ) → 0 ≡ truth t → [] ≡ pick t ys []
-none-kept true ys e = absurd (omega arith)
-none-kept false ys e = refl
+-- an answer that is not `Done` is a refusal
+pub payload-refusal : (r : PayloadRead) → OneOf (1 ∷ 2 ∷ 3 ∷ 4 ∷ 5 ∷ 6 ∷ []) (tagOf the-type r) → givenPayload r .number ≡ 0 → ⊥
+payload-refusal (PayloadRead.Done p n) k z = miss (1 ∷ 2 ∷ 3 ∷ 4 ∷ 5 ∷ 6 ∷ []) 0 tt k
+payload-refusal PayloadRead.ShortHeader k z = omega arith
+payload-refusal PayloadRead.BadStartCode k z = omega arith
+payload-refusal PayloadRead.ShortContents k z = omega arith
+payload-refusal PayloadRead.BadCheckBits k z = omega arith
+payload-refusal PayloadRead.HeaderPastBuffer k z = omega arith
+payload-refusal PayloadRead.FieldsPastHeader k z = omega arith
 
-pub all-kept : (t : Bool) (ys : List ℕ) → 1 ≡ truth t → ys ≡ pick t ys []
-all-kept true ys e = refl
-all-kept false ys e = absurd (omega arith)
+is-true : (t : Bool) → 1 ≡ truth t → t ≡ true
+is-true true e = refl
+is-true false e = absurd (omega arith)
 
-pub none-there : (t : Bool) (ys : List ℕ) → [] ≡ ys → [] ≡ pick t ys []
-none-there true ys e = e
-none-there false ys e = refl
+is-false : (t : Bool) → 0 ≡ truth t → t ≡ false
+is-false true e = absurd (omega arith)
+is-false false e = refl
 
-module _ (xs : List ℕ) (r s : ContentsRead) (q : r ≡ s) (g : givenContents r ≡ readContents xs) where
-  answered : givenContents s ≡ readContents xs
-  answered = sym (ap givenContents q) ∙ g
+-- a refusal names no place that could be moved
+pub later-refused : (w : Refusal) → refusal w ≡ later 6 (refusal w)
+later-refused Refusal.ShortContents = refl
+later-refused Refusal.BadCheckBits = refl
+later-refused Refusal.HeaderPastBuffer = refl
+later-refused Refusal.FieldsPastHeader = refl
 
-  -- a head that is refused has nothing after it
-  pub refused-part : 0 < givenContents s .number → [] ≡ parsedBytes xs
-  unfolding parsedBytes
-  refused-part h =
-      none-there (parsedId (idOf xs)) (partOf (contentsPart xs) xs)
-      (part-refused (contentsPart xs) xs (λ z.
-      let d = headed-done xs (answer 0 (6 ∷ (length xs - 6) ∷ [])) z in
-      let y : givenContents s .number ≡ 0 = ap (λ (a : Answer). a .number) (answered ∙ d .1 _) in
-      omega arith))
+-- a part of the bytes from k on, as a part of the whole: it has the same number, lies within the whole, and is the same bytes
+module _ (k : ℕ) (a : Answer) where
+  pub later-number : later k a .number ≡ a .number
+  later-number = go (eqb (a .number) 0) refl
+    where
+      go : (t : Bool) → eqb (a .number) 0 ≡ t
+          → pick t (answer 0 ((k + getD (a .values) 0 0) ∷ getD (a .values) 1 0 ∷ [])) a .number ≡ a .number
+      go true e = sym (eqb-true (a .number) 0 e)
+      go false e = refl
 
-  -- the kind that an accepted head gives is that of its id
-  kind-is : (k p n : ℕ) → givenContents s ≡ answer 0 (k ∷ p ∷ n ∷ []) → k ≡ truth (parsedId (idOf xs))
-  kind-is k p n e = contents-known xs k p n (sym e ∙ answered) .2
+  pub later-within : (xs : List ℕ) → k ≤ length xs → Within a (drop k xs) → Within (later k a) xs
+  later-within xs h w = go (eqb (a .number) 0) refl
+    where
+      go : (t : Bool) → eqb (a .number) 0 ≡ t
+          → Within (pick t (answer 0 ((k + getD (a .values) 0 0) ∷ getD (a .values) 1 0 ∷ [])) a) xs
+      go true e z = omega (arith, w (eqb-true (a .number) 0 e), length-drop k xs)
+      go false e z = absurd (eqb-false (a .number) 0 e z)
 
-  pub bare-part : (p n : ℕ) → s ≡ ContentsRead.Payload p n → [] ≡ parsedBytes xs
-  unfolding parsedBytes
-  bare-part p n e = none-kept (parsedId (idOf xs)) _ (kind-is 0 p n (ap givenContents e))
+  pub later-part : (xs : List ℕ) → partOf (later k a) xs ≡ partOf a (drop k xs)
+  unfolding partOf
+  later-part xs = go (eqb (a .number) 0) refl
+    where
+      go : (t : Bool) → eqb (a .number) 0 ≡ t
+          → partOf (pick t (answer 0 ((k + getD (a .values) 0 0) ∷ getD (a .values) 1 0 ∷ [])) a) xs ≡ partOf a (drop k xs)
+      go true e = rw (e, drop-drop (getD (a .values) 0 0) k xs)
+      go false e = rw e
 
-  pub parsed-part : (p n : ℕ) → s ≡ ContentsRead.Parsed p n → partOf (contentsPart xs) xs ≡ parsedBytes xs
-  unfolding parsedBytes
-  parsed-part p n e = all-kept (parsedId (idOf xs)) _ (kind-is 1 p n (ap givenContents e))
+-- what is read of the contents, by the four tests
+abbrev tested : Bool → Bool → Bool → Bool → Answer → Answer
+tested s k p f a = pick s (answer 5 []) (pick k (pick p (answer 7 []) (pick f (answer 8 []) a)) (answer 6 []))
 
--- the payload of bytes that are those of parsed contents
-pub payload-of : (xs ys : List ℕ) → ys ≡ parsedBytes xs → partOf (readPayload ys) ys ≡ payloadBytes xs
-unfolding payloadBytes
-payload-of xs ys e = ap (λ (zs : List ℕ). partOf (readPayload zs) zs) e
+-- it is refused by the number of the contents, which is at most 8
+pub contents-number : (c : List ℕ) (a : Answer) → a .number ≡ 0 → (guarded c a .number ≡ readParsed c .number) × (guarded c a .number ≤ 8)
+unfolding guarded
+contents-number c a z = go (ltb (length c) 3) (eqb (field c 0 2) 2) (ltb (length c) (payloadAt c)) (ltb (payloadAt c) (fieldsEnd c))
+  where
+    go : (s k p f : Bool) → (tested s k p f a .number ≡ tested s k p f (answer 0 []) .number) × (tested s k p f a .number ≤ 8)
+    go true k p f = (refl, omega arith)
+    go false false p f = (refl, omega arith)
+    go false true true f = (refl, omega arith)
+    go false true false true = (refl, omega arith)
+    go false true false false = (z, omega arith)
+
+module _ (xs : List ℕ) where
+  -- a head that is refused is so whatever is read of it
+  pub head-refused : (a b : Answer) → a .number ≡ 0 → 0 < headed xs a .number → headed xs a ≡ headed xs b
+  unfolding headed
+  head-refused a b z = go (ltb (length xs) 6) (eqb (field xs 0 24) 1)
+    where
+      go : (l p : Bool) → 0 < pick l (answer 3 []) (pick p a (answer 4 [])) .number
+          → pick l (answer 3 []) (pick p a (answer 4 [])) ≡ pick l (answer 3 []) (pick p b (answer 4 []))
+      go true p h = refl
+      go false true h = absurd (omega arith)
+      go false false h = refl
+
+  pub refused-head : (r s : ContentsRead) → r ≡ s → givenContents r ≡ readContents xs → 0 < givenContents s .number
+      → givenContents s ≡ headerPayload xs
+  unfolding headerPayload
+  refused-head r s e g h =
+      let f : givenContents s ≡ readContents xs = sym (ap givenContents e) ∙ g in
+      f ∙ head-refused _ _ refl (rw f at h)
+
+  pub bare : (r : ContentsRead) (p n : ℕ) → r ≡ ContentsRead.Payload p n → givenContents r ≡ readContents xs
+      → answer 0 (p ∷ n ∷ []) ≡ headerPayload xs
+  unfolding headerPayload
+  bare r p n e g =
+      let k = contents-known xs 0 p n (sym (ap givenContents e) ∙ g) in
+      rw (k .3, k .4) (sym (k .1 _ ∙ rw (is-false (parsedId (idOf xs)) (k .2)) (k .1 _)))
+
+  module _ (r : ContentsRead) (p n : ℕ) (e : r ≡ ContentsRead.Parsed p n) (g : givenContents r ≡ readContents xs) where
+    pub parsed-there : (p ≡ 6) × (6 ≤ length xs)
+    parsed-there = let k = contents-known xs 1 p n (sym (ap givenContents e) ∙ g) in (k .3, k .0)
+
+    module _ (q : PartRead) (f : givenPart q ≡ readPayload (take (length xs - p) (drop p xs))) where
+      read-off : givenPart q ≡ readPayload (drop 6 xs)
+      read-off = f ∙ (ap readPayload (part-rest p xs) ∙ ap (λ (m : ℕ). readPayload (drop m xs)) (parsed-there .0))
+
+      parsed-is : later 6 (givenPart q) ≡ headerPayload xs
+      unfolding headerPayload
+      parsed-is =
+          let k = contents-known xs 1 p n (sym (ap givenContents e) ∙ g) in
+          rw read-off (sym (k .1 _ ∙ rw (is-true (parsedId (idOf xs)) (k .2))))
+
+      pub contents-refused : (w : Refusal) → q ≡ PartRead.Refused w → refusal w ≡ headerPayload xs
+      contents-refused w h = later-refused w ∙ (ap (λ (z : PartRead). later 6 (givenPart z)) (sym h) ∙ parsed-is)
+
+      pub never-flagged : q ≡ PartRead.FieldNotPresent → ⊥
+      never-flagged h =
+          let z : 9 ≡ readPayload (drop 6 xs) .number = ap (λ (a : Answer). a .number) (ap givenPart (sym h) ∙ read-off) in
+          let l : readPayload (drop 6 xs) .number ≤ 8 = contents-number (drop 6 xs) _ refl .1 in
+          omega arith
+
+      pub contents-accepted : (a m : ℕ) → q ≡ PartRead.Done a m → (answer 0 ((p + a) ∷ m ∷ []) ≡ headerPayload xs) × (p + a + m ≤ length xs)
+      contents-accepted a m h =
+          let y : answer 0 (a ∷ m ∷ []) ≡ readPayload (drop 6 xs) = ap givenPart (sym h) ∙ read-off in
+          let w : a + m ≤ length (drop 6 xs) = (rw (← y) at (payload-within (drop 6 xs))) refl in
+          let d : answer 0 ((6 + a) ∷ m ∷ []) ≡ headerPayload xs = ap (λ (z : PartRead). later 6 (givenPart z)) (sym h) ∙ parsed-is in
+          (ap (λ (i : ℕ). answer 0 ((i + a) ∷ m ∷ [])) (parsed-there .0) ∙ d, omega (arith, length-drop 6 xs, parsed-there))

@@ -1,28 +1,58 @@
--- The crate's theorems that belong to no one function: a `PesHeader` made of bytes answers of them, and where its payload lies.
+-- The crate's theorems that belong to no one function: one answer only, a `PesHeader` made of bytes answers of them, and where its
+-- payload lies and by which number it is refused.
 -- Assumes nothing.
-use mathlib.Core.Path.{_≡_, sym, ap, _∙_}
-use mathlib.Core.Bool.{true, false}
-use mathlib.Core.List.{List, [], _∷_}
-use Prim.Native.Nat.{ℕ, _-_}
+use mathlib.Core.Path.{_≡_, refl, sym, ap, _∙_}
+use mathlib.Core.Bool.{Bool, true, false}
+use mathlib.Core.List.{List, []}
+use Prim.Native.Nat.{ℕ, _-_, _≤_}
 use native.Mathlib.Omega.{arith}
-use lib.ListN.{length, drop}
+use borrow.Author.Tests.{eqb-true, eqb-false}
+use lib.Dec.{eqb}
+use lib.ListN.{length, getD, drop}
 use denote.Ref.{now}
-use Rattle.bits.specs.Answer.{Answer, answer, partOf}
-use Rattle.bits.proofs.Parts.{part-refused, part-none, part-rest, part-in, part-done}
+use Rattle.bits.specs.Answer.{Answer, answer, pick, andThen, partOf, Within}
+use Rattle.bits.proofs.Tests.{one-answer}
+use Rattle.bits.proofs.Parts.{part-refused, part-rest, part-in, part-done}
 use Rattle.pes.specs.declared.HeadRead.{HeadRead}
 use Rattle.pes.specs.declared.StreamIdRead.{StreamIdRead}
 use Rattle.pes.specs.declared.LengthRead.{LengthRead}
 use Rattle.pes.specs.declared.ContentsRead.{ContentsRead}
 use Rattle.pes.specs.Stream.{parsedId}
 use Rattle.pes.specs.Head.{givenHead, givenStreamId, givenLength, givenContents}
-use Rattle.pes.specs.Head.{idOf, readHead, readStreamId, readLength, readContents, contentsPart}
+use Rattle.pes.specs.Head.{headed, idOf, readHead, readStreamId, readLength, readContents, contentsPart}
 use Rattle.pes.proofs.Laws.{headed-done}
 use Rattle.pes.proofs.Theorems.{one-head, one-stream-id, one-length, one-contents, contents-within}
-use Rattle.contents.specs.Contents.{readPayload}
-use Rattle.contents.proofs.Laws.{short}
+use Rattle.contents.specs.Contents.{readPayload, readContents as readParsed}
+use Rattle.contents.proofs.Laws.{payload-within as contents-payload-within}
 use Rattle.pes_header.specs.declared.PesHeader.{PesHeader}
-use Rattle.pes_header.specs.Payload.{parsedBytes, payloadBytes}
-use Rattle.pes_header.proofs.Laws.{all-kept, none-there, payload-of}
+use Rattle.pes_header.specs.declared.PayloadRead.{PayloadRead}
+use Rattle.pes_header.specs.Payload.{givenPayload, later, headerPayload, payloadBytes}
+use Rattle.pes_header.proofs.Laws.{later-number, later-within, later-part, contents-number, head-refused}
+
+-- ---- one answer only: any two answers that meet the promise of `payload_at` are equal
+
+payloadBack : Answer → PayloadRead
+payloadBack s =
+    pick (eqb (s .number) 0) (PayloadRead.Done (getD (s .values) 0 0) (getD (s .values) 1 0))
+    (pick (eqb (s .number) 3) PayloadRead.ShortHeader
+    (pick (eqb (s .number) 4) PayloadRead.BadStartCode
+    (pick (eqb (s .number) 5) PayloadRead.ShortContents
+    (pick (eqb (s .number) 6) PayloadRead.BadCheckBits
+    (pick (eqb (s .number) 7) PayloadRead.HeaderPastBuffer
+    PayloadRead.FieldsPastHeader)))))
+
+payloadBack-given : (r : PayloadRead) → payloadBack (givenPayload r) ≡ r
+unfolding payloadBack
+payloadBack-given (PayloadRead.Done p n) = refl
+payloadBack-given PayloadRead.ShortHeader = refl
+payloadBack-given PayloadRead.BadStartCode = refl
+payloadBack-given PayloadRead.ShortContents = refl
+payloadBack-given PayloadRead.BadCheckBits = refl
+payloadBack-given PayloadRead.HeaderPastBuffer = refl
+payloadBack-given PayloadRead.FieldsPastHeader = refl
+
+pub one-payload : (s : Answer) (a b : PayloadRead) → givenPayload a ≡ s → givenPayload b ≡ s → a ≡ b
+one-payload = one-answer givenPayload payloadBack payloadBack-given
 
 -- ---- a header made of bytes answers as the functions on these bytes do: the reader's answer and the function's are one
 
@@ -39,43 +69,62 @@ module _ (h : PesHeader) (xs : List ℕ) (e : now (h .buf) ≡ xs) where
   pub kept-contents : (a b : ContentsRead) → givenContents a ≡ readContents (now (h .buf)) → givenContents b ≡ readContents xs → a ≡ b
   kept-contents a b p q = one-contents (readContents xs) a b (p ∙ ap readContents e) q
 
+  pub kept-payload-at : (a b : PayloadRead) → givenPayload a ≡ headerPayload (now (h .buf)) → givenPayload b ≡ headerPayload xs → a ≡ b
+  kept-payload-at a b p q = one-payload (headerPayload xs) a b (p ∙ ap headerPayload e) q
+
   -- every part that is handed out, as the bytes' function f of the promise
   pub kept-part : (f : List ℕ → List ℕ) (r s : List ℕ) → r ≡ f (now (h .buf)) → s ≡ f xs → r ≡ s
   kept-part f r s p q = p ∙ (ap f e ∙ sym q)
 
--- ---- where parsed contents and their payload lie
-
--- no bytes have no payload
-empty-payload : partOf (readPayload []) [] ≡ []
-empty-payload = sym (part-none (answer 5 []) (readPayload []) [] (omega arith) (short [] _ (omega arith)))
+-- ---- the payload lies within the bytes
 
 module _ (xs : List ℕ) where
-  -- a refused head: no bytes
-  pub refused-parts : (readHead xs .number ≡ 0 → ⊥) → (parsedBytes xs ≡ []) × (payloadBytes xs ≡ [])
-  unfolding parsedBytes
-  refused-parts h =
-      let e : [] ≡ parsedBytes xs =
-      none-there (parsedId (idOf xs)) _
-      (part-refused (contentsPart xs) xs (λ z.
-      h (ap (λ (a : Answer). a .number) (headed-done xs (answer 0 (6 ∷ (length xs - 6) ∷ [])) z .1 (answer 0 []))))) in
-      (sym e, sym (payload-of xs [] e) ∙ empty-payload)
+  pub payload-within : Within (headerPayload xs) xs
+  unfolding headerPayload
+  payload-within z = let h = headed-done xs _ z in go (parsedId (idOf xs)) h z
+    where
+      go : (t : Bool) → (6 ≤ length xs) × ((b : Answer) → headed xs b ≡ b)
+          → Within (headed xs (pick t (later 6 (readPayload (drop 6 xs))) (contentsPart xs))) xs
+      go true h = rw (h .1 (later 6 (readPayload (drop 6 xs)))) (later-within 6 (readPayload (drop 6 xs)) xs (h .0) (contents-payload-within (drop 6 xs)))
+      go false h = rw (h .1 (contentsPart xs)) (contents-within xs)
 
-  -- an id that carries bare payload: no bytes
-  pub bare-parts : parsedId (idOf xs) ≡ false → (parsedBytes xs ≡ []) × (payloadBytes xs ≡ [])
-  unfolding parsedBytes
-  bare-parts h =
-      let e : [] ≡ parsedBytes xs = rw h in
-      (sym e, sym (payload-of xs [] e) ∙ empty-payload)
+  -- ---- what it is, by case
 
-  -- else the bytes after the head, and what `contents::payload` gives of them
-  pub parsed-parts : readHead xs .number ≡ 0 → parsedId (idOf xs) ≡ true
-      → (parsedBytes xs ≡ drop 6 xs) × (payloadBytes xs ≡ partOf (readPayload (drop 6 xs)) (drop 6 xs))
-  unfolding parsedBytes
-  parsed-parts h t =
-      let d = headed-done xs (answer 0 []) h in
-      let e : drop 6 xs ≡ parsedBytes xs =
-      sym (part-rest 6 xs)
-      ∙ (part-in 6 (length xs - 6) xs (omega (arith, d .0))
-      ∙ (part-done (contentsPart xs) xs 6 (length xs - 6) (sym (d .1 _)) (contents-within xs)
-      ∙ all-kept (parsedId (idOf xs)) _ (rw t))) in
-      (sym e, sym (payload-of xs (drop 6 xs) e))
+  -- a head that is refused: its own number, and no bytes
+  pub refused-payload : (readHead xs .number ≡ 0 → ⊥) → (headerPayload xs ≡ readHead xs) × (payloadBytes xs ≡ [])
+  unfolding headerPayload payloadBytes
+  refused-payload h =
+      let e = sym (head-refused xs (answer 0 []) _ refl (omega (arith, h))) in
+      (e, sym (part-refused (headerPayload xs) xs (λ z. h (ap (λ (a : Answer). a .number) (sym e) ∙ z))))
+
+  module _ (h : readHead xs .number ≡ 0) where
+    -- an id that carries bare payload: all bytes after the six
+    pub bare-payload : parsedId (idOf xs) ≡ false → (headerPayload xs ≡ contentsPart xs) × (payloadBytes xs ≡ drop 6 xs)
+    unfolding headerPayload payloadBytes
+    bare-payload t =
+        let d = headed-done xs (answer 0 []) h in
+        let e : headerPayload xs ≡ contentsPart xs = d .1 _ ∙ rw t in
+        let p = part-done (contentsPart xs) xs 6 (length xs - 6) (sym (d .1 _)) (contents-within xs) in
+        (e, ap (λ (a : Answer). partOf a xs) e ∙ (sym p ∙ (sym (part-in 6 (length xs - 6) xs (omega (arith, d .0))) ∙ part-rest 6 xs)))
+
+    -- an id that carries parsed contents: what `contents::payload` gives of the bytes after the six, refused by the number of the contents
+    pub parsed-payload : parsedId (idOf xs) ≡ true
+        → (headerPayload xs ≡ later 6 (readPayload (drop 6 xs))) × (payloadBytes xs ≡ partOf (readPayload (drop 6 xs)) (drop 6 xs))
+    unfolding headerPayload payloadBytes
+    parsed-payload t =
+        let e : headerPayload xs ≡ later 6 (readPayload (drop 6 xs)) = headed-done xs (answer 0 []) h .1 _ ∙ rw t in
+        (e, ap (λ (a : Answer). partOf a xs) e ∙ later-part 6 (readPayload (drop 6 xs)) xs)
+
+  -- THE NUMBER is the head's where that is refused, else that of the contents where the id carries such, and 0 after a bare id
+  pub payload-number : headerPayload xs .number
+      ≡ andThen (readHead xs) (pick (parsedId (idOf xs)) (readParsed (drop 6 xs)) (answer 0 [])) .number
+  payload-number = go (eqb (readHead xs .number) 0) refl (parsedId (idOf xs)) refl
+    where
+      go : (t : Bool) → eqb (readHead xs .number) 0 ≡ t → (k : Bool) → parsedId (idOf xs) ≡ k
+          → headerPayload xs .number ≡ pick t (pick k (readParsed (drop 6 xs)) (answer 0 [])) (readHead xs) .number
+      go true e true k =
+          ap (λ (a : Answer). a .number) (parsed-payload (eqb-true _ _ e) k .0)
+          ∙ (later-number 6 (readPayload (drop 6 xs)) ∙ contents-number (drop 6 xs) _ refl .0)
+      go true e false k =
+          ap (λ (a : Answer). a .number) (bare-payload (eqb-true _ _ e) k .0 ∙ headed-done xs (answer 0 []) (eqb-true _ _ e) .1 _)
+      go false e b k = ap (λ (a : Answer). a .number) (refused-payload (eqb-false _ _ e) .0)

@@ -3,39 +3,72 @@ ghost use mathlib.Core.Path.{_≡_};
 ghost use Rattle.bits.specs.Answer.{partOf};
 ghost use Rattle.pes.specs.Head.{givenHead, givenStreamId, givenLength, givenContents};
 ghost use Rattle.pes.specs.Head.{readHead, readStreamId, readLength, readContents, contentsPart};
-ghost use Rattle.pes_header.specs.Payload.{parsedBytes, payloadBytes};
+ghost use Rattle.contents.specs.Given.{refusal};
+ghost use Rattle.pes_header.specs.Payload.{givenPayload, headerPayload, payloadBytes};
+use bits::part;
+use contents::PartRead;
+use contents::Refusal;
 use pes::ContentsRead;
 use pes::HeadRead;
 use pes::LengthRead;
 use pes::StreamIdRead;
 
-// The bytes of parsed contents; none where the id carries bare payload, and where the head is refused.
-pub fn parsed_part(buf: &[u8]) -> &[u8]
-    ensures { λ r. ⌜ now r ≡ parsedBytes (now (buf .entry)) ⌝ }
+// Where the payload lies, or why there is none: the head is refused (3, 4), or the contents that it announces are (5 to 8).
+pub enum PayloadRead {
+    Done { place: usize, length: usize },
+    ShortHeader,
+    BadStartCode,
+    ShortContents,
+    BadCheckBits,
+    HeaderPastBuffer,
+    FieldsPastHeader,
+}
+
+// Contents that are refused, as an answer about the payload.
+fn refused(why: Refusal) -> PayloadRead
+    ensures { λ r. ⌜ givenPayload r ≡ refusal why ⌝ }
 {
-    match pes::contents(buf) {
-        ContentsRead::ShortHeader => &buf[0..0],
-        ContentsRead::BadStartCode => &buf[0..0],
-        ContentsRead::Payload {
-            place: _,
-            length: _,
-        } => &buf[0..0],
-        ContentsRead::Parsed {
-            place: _,
-            length: _,
-        } => pes::contents_part(buf),
+    match why {
+        Refusal::ShortContents => PayloadRead::ShortContents,
+        Refusal::BadCheckBits => PayloadRead::BadCheckBits,
+        Refusal::HeaderPastBuffer => PayloadRead::HeaderPastBuffer,
+        Refusal::FieldsPastHeader => PayloadRead::FieldsPastHeader,
     }
 }
 
-// The payload after parsed contents; none where there are no such contents, and where they are refused.
+// Where the payload lies: after the header data, or after the head where the id carries bare payload.
+pub fn payload_at(buf: &[u8]) -> PayloadRead
+    ensures { λ r. ⌜ givenPayload r ≡ headerPayload (now (buf .entry)) ⌝ }
+{
+    match pes::contents(buf) {
+        ContentsRead::ShortHeader => PayloadRead::ShortHeader,
+        ContentsRead::BadStartCode => PayloadRead::BadStartCode,
+        ContentsRead::Payload { place, length } => PayloadRead::Done { place, length },
+        ContentsRead::Parsed { place, length: _ } => match contents::payload_at(&buf[place..]) {
+            PartRead::Done { place: at, length } => PayloadRead::Done {
+                place: place + at,
+                length,
+            },
+            PartRead::Refused(why) => refused(why),
+            // cannot arise: a payload is never flagged
+            PartRead::FieldNotPresent => PayloadRead::FieldsPastHeader,
+        },
+    }
+}
+
+// The payload; none where head or contents are refused.
 pub fn payload(buf: &[u8]) -> &[u8]
     ensures { λ r. ⌜ now r ≡ payloadBytes (now (buf .entry)) ⌝ }
 {
-    contents::payload(parsed_part(buf))
+    let PayloadRead::Done { place, length } = payload_at(buf) else {
+        return &buf[0..0];
+    };
+    part(buf, place, length)
 }
 
 // Each reader answers of the bytes kept as the function of its name does, `head` as `pes::from_bytes`. Where the head is refused the
-// readers say which refusal it was, and a part handed out is empty.
+// readers say which refusal it was, and a part handed out is empty. The fields of parsed contents are read off `contents_part` where
+// `contents` says Parsed, as in the original; elsewhere they cannot be asked.
 pub struct PesHeader<'a> {
     pub buf: &'a [u8],
 }
@@ -79,10 +112,10 @@ impl<'a> PesHeader<'a> {
         pes::contents_part(self.buf)
     }
 
-    pub fn parsed_part(self) -> &'a [u8]
-        ensures { λ r. ⌜ now r ≡ parsedBytes (now (self .entry .buf)) ⌝ }
+    pub fn payload_at(self) -> PayloadRead
+        ensures { λ r. ⌜ givenPayload r ≡ headerPayload (now (self .entry .buf)) ⌝ }
     {
-        parsed_part(self.buf)
+        payload_at(self.buf)
     }
 
     pub fn payload(self) -> &'a [u8]
