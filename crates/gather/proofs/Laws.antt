@@ -7,28 +7,23 @@ use Prim.Native.Nat.{ℕ, _+_, _-_, _≤_, _<_}
 use native.Mathlib.Omega.{arith}
 use types.Run.{OneOf, miss}
 use denote.Enum.Declared.{tagOf}
-use lib.ListN.{length, getD, take, drop, length-drop}
-use lib.Dec.{eqb, leb, ltb}
+use lib.ListN.{length, getD, take, drop}
+use lib.Dec.{eqb, leb}
 use borrow.Author.Tests.{lt-ltb, le-ltb, le-leb, lt-leb, leb-true, leb-false, eq-eqb, ne-eqb, eqb-true, eqb-false}
-use Rattle.bits.specs.Answer.{Answer, answer, pick, truth, partAt, placedAt, Within}
-use Rattle.bits.specs.Field.{field}
-use Rattle.bits.proofs.Parts.{part-rest, part-in, part-cut, part-length, part-of-part, part-refused, part-done, placed-none, placed-out}
-use Rattle.pes.specs.declared.ContentsRead.{ContentsRead}
-use Rattle.pes.specs.Stream.{parsedId}
-use Rattle.pes.specs.Head.{headed, idOf, givenContents, readContents, contentsPart}
-use Rattle.pes.proofs.Laws.{contents-known}
-use Rattle.contents.specs.declared.PartRead.{PartRead}
-use Rattle.contents.specs.Contents.{readPayload}
-use Rattle.contents.specs.Given.{givenPart}
-use Rattle.contents.proofs.PartRead.{the-type as part-type}
-use Rattle.contents.proofs.Laws.{payload-within, part-refusal}
+use Rattle.bits.specs.Answer.{Answer, answer, pick, partAt, placedAt}
+use Rattle.bits.proofs.Parts.{part-in, part-cut, part-length, part-of-part, part-refused, part-done, placed-none, placed-out}
+use Rattle.pes_header.specs.declared.PayloadRead.{PayloadRead}
+use Rattle.pes_header.specs.Payload.{givenPayload, headerPayload, payloadBytes}
+use Rattle.pes_header.proofs.PayloadRead.{the-type as payload-type}
+use Rattle.pes_header.proofs.Laws.{payload-refusal}
+use Rattle.pes_header.proofs.Theorems.{payload-within}
 use Rattle.log.specs.declared.Event.{Event}
 use Rattle.gather.specs.declared.Lies.{Lies}
 use Rattle.gather.specs.declared.Lies.the-variants.{Packet, Store}
 use Rattle.gather.specs.declared.Gathering.{Gathering}
 use Rattle.gather.specs.declared.HeldRead.{HeldRead}
 use Rattle.gather.proofs.HeldRead.{the-type}
-use Rattle.gather.specs.Belongs.{eventBytes, later, belongs, ownPlace, ownBytes}
+use Rattle.gather.specs.Belongs.{eventBytes, ownPlace, ownBytes}
 use Rattle.gather.specs.Gather.{gathering, fresh, judged, eventGood, inPacket, stateGood, kept, added, next, numberOf, Outcome}
 use Rattle.gather.specs.Gather.{outcome, gatherOf, storeOf, givenHeld, readOf, lying, bytesOf, Possible, moved}
 
@@ -38,82 +33,19 @@ use Rattle.gather.specs.Gather.{outcome, gatherOf, storeOf, givenHeld, r
 abbrev Own : List ℕ → ℕ → ℕ → Type 0
 Own xs p n = (p ≡ ownPlace xs) × (partAt p n xs ≡ ownBytes xs) × (p + n ≤ length xs)
 
-is-true : (t : Bool) → 1 ≡ truth t → t ≡ true
-is-true true e = refl
-is-true false e = absurd (omega arith)
+module _ (xs : List ℕ) (r : PayloadRead) (g : givenPayload r ≡ headerPayload xs) where
+  pub own-refused : OneOf (1 ∷ 2 ∷ 3 ∷ 4 ∷ 5 ∷ 6 ∷ []) (tagOf payload-type r) → Own xs 0 0
+  unfolding ownPlace ownBytes payloadBytes
+  own-refused k =
+      let h : headerPayload xs .number ≡ 0 → ⊥ = λ z. payload-refusal r k (ap (λ (a : Answer). a .number) g ∙ z) in
+      (simp (ne-eqb (headerPayload xs .number) 0 h), sym (part-in 0 0 xs (omega arith)) ∙ part-refused (headerPayload xs) xs h, omega arith)
 
-is-false : (t : Bool) → 0 ≡ truth t → t ≡ false
-is-false true e = absurd (omega arith)
-is-false false e = refl
-
-module _ (xs : List ℕ) where
-  own-none : (belongs xs .number ≡ 0 → ⊥) → Own xs 0 0
-  unfolding ownPlace ownBytes
-  own-none h =
-      (simp (ne-eqb (belongs xs .number) 0 h), sym (part-in 0 0 xs (omega arith)) ∙ part-refused (belongs xs) xs h, omega arith)
-
-  own-some : (p n : ℕ) → answer 0 (p ∷ n ∷ []) ≡ belongs xs → p + n ≤ length xs → Own xs p n
-  unfolding ownPlace ownBytes
-  own-some p n e h =
-      let w : Within (belongs xs) xs = rw (← e) (λ z. h) in
-      (rw (← e) refl, part-done (belongs xs) xs p n e w, h)
-
-  -- a head that is refused is so whatever is read of it
-  head-refused : (a b : Answer) → a .number ≡ 0 → 0 < headed xs a .number → headed xs b ≡ headed xs a
-  unfolding headed
-  head-refused a b z = go (ltb (length xs) 6) (eqb (field xs 0 24) 1)
-    where
-      go : (l p : Bool) → 0 < pick l (answer 3 []) (pick p a (answer 4 [])) .number
-          → pick l (answer 3 []) (pick p b (answer 4 [])) ≡ pick l (answer 3 []) (pick p a (answer 4 []))
-      go true p h = refl
-      go false true h = absurd (omega arith)
-      go false false h = refl
-
-  module _ (r s : ContentsRead) (e : r ≡ s) (g : givenContents r ≡ readContents xs) where
-    answered : givenContents s ≡ readContents xs
-    answered = sym (ap givenContents e) ∙ g
-
-    pub belongs-refused : 0 < givenContents s .number → Own xs 0 0
-    unfolding belongs
-    belongs-refused h =
-        let k : 0 < readContents xs .number = rw answered at h in
-        own-none (λ z. let f = head-refused _ (pick (parsedId (idOf xs)) (later 6 (readPayload (drop 6 xs))) (contentsPart xs)) refl k in
-        let y : readContents xs .number ≡ 0 = ap (λ (a : Answer). a .number) (sym f) ∙ z in omega arith)
-
-  pub belongs-bare : (r : ContentsRead) (p n : ℕ) → r ≡ ContentsRead.Payload p n → givenContents r ≡ readContents xs
-      → Own xs p n
-  unfolding belongs
-  belongs-bare r p n e g =
-      let t = parsedId (idOf xs) in
-      let k = contents-known xs 0 p n (sym (ap givenContents e) ∙ g) in
-      let f : belongs xs ≡ answer 0 (6 ∷ (length xs - 6) ∷ []) = k .1 _ ∙ rw (is-false t (k .2)) (k .1 _) in
-      own-some p n (rw (k .3, k .4) (sym f)) (omega arith)
-
-  module _ (r : ContentsRead) (p n : ℕ) (e : r ≡ ContentsRead.Parsed p n) (g : givenContents r ≡ readContents xs) where
-    pub parsed-there : (p ≡ 6) × (6 ≤ length xs)
-    parsed-there = let k = contents-known xs 1 p n (sym (ap givenContents e) ∙ g) in (k .3, k .0)
-
-    belongs-parsed : belongs xs ≡ later 6 (readPayload (drop 6 xs))
-    unfolding belongs
-    belongs-parsed =
-        let t = parsedId (idOf xs) in
-        let k = contents-known xs 1 p n (sym (ap givenContents e) ∙ g) in
-        k .1 _ ∙ rw (is-true t (k .2))
-
-    module _ (q : PartRead) (f : givenPart q ≡ readPayload (take (length xs - p) (drop p xs))) where
-      payload-of : givenPart q ≡ readPayload (drop 6 xs)
-      payload-of = f ∙ (ap readPayload (part-rest p xs) ∙ ap (λ (m : ℕ). readPayload (drop m xs)) (parsed-there .0))
-
-      pub contents-refused : OneOf (1 ∷ 2 ∷ []) (tagOf part-type q) → Own xs 0 0
-      contents-refused k =
-          let z : readPayload (drop 6 xs) .number ≡ 0 → ⊥ = λ y. part-refusal q k (ap (λ (a : Answer). a .number) payload-of ∙ y) in
-          own-none (rw (belongs-parsed, ne-eqb (readPayload (drop 6 xs) .number) 0 z) z)
-
-      pub contents-accepted : (a m : ℕ) → q ≡ PartRead.Done a m → Own xs (p + a) m
-      contents-accepted a m h =
-          let y : answer 0 (a ∷ m ∷ []) ≡ readPayload (drop 6 xs) = ap givenPart (sym h) ∙ payload-of in
-          let w : a + m ≤ length (drop 6 xs) = (rw (← y) at (payload-within (drop 6 xs))) refl in
-          own-some (p + a) m (rw (belongs-parsed, ← y, parsed-there .0)) (omega (arith, length-drop 6 xs, parsed-there))
+  pub own-done : (p n : ℕ) → r ≡ PayloadRead.Done p n → Own xs p n
+  unfolding ownPlace ownBytes payloadBytes
+  own-done p n q =
+      let e : answer 0 (p ∷ n ∷ []) ≡ headerPayload xs = ap givenPayload (sym q) ∙ g in
+      let w : p + n ≤ length xs = (rw (← e) at (payload-within xs)) refl in
+      (rw (← e) refl, part-done (headerPayload xs) xs p n e (payload-within xs), w)
 
 -- ---- what cannot be
 

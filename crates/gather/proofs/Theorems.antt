@@ -9,22 +9,18 @@ use lib.Dec.{eqb, leb, ltb}
 use lib.ListN.{length, getD, take, drop, length-drop, length-append}
 use lib.Seq.{length-take-le}
 use borrow.Author.Tests.{le-leb, leb-true, leb-false, ltb-false, ne-eqb, eqb-true, eqb-false}
-use Rattle.bits.specs.Answer.{Answer, answer, pick, partAt, placedAt, partOf, Within, All}
+use Rattle.bits.specs.Answer.{pick, partAt, placedAt, partOf, All}
 use Rattle.bits.proofs.Parts.{part-in, part-length, part-of-part, length-placed, placed-take, placed-before, placed-after, placed-none}
 use Rattle.bits.proofs.Tests.{one-answer}
-use Rattle.pes.specs.Stream.{parsedId}
-use Rattle.pes.specs.Head.{idOf, contentsPart}
-use Rattle.pes.proofs.Laws.{headed-done}
-use Rattle.pes.proofs.Theorems.{contents-within}
-use Rattle.contents.specs.Contents.{readPayload}
-use Rattle.contents.proofs.Laws.{payload-within}
+use Rattle.pes_header.specs.Payload.{headerPayload, payloadBytes}
+use Rattle.pes_header.proofs.Theorems.{payload-within}
 use Rattle.log.specs.declared.Event.{Event}
 use Rattle.gather.specs.declared.Lies.the-variants.{Packet, Store}
 use Rattle.gather.specs.declared.Gathering.{Gathering}
 use Rattle.gather.specs.declared.Gathered.{Gathered}
 use Rattle.gather.specs.declared.HeldRead.{HeldRead}
 use Rattle.gather.specs.declared.Verdict.{Verdict}
-use Rattle.gather.specs.Belongs.{eventBytes, later, belongs, ownPlace, ownBytes}
+use Rattle.gather.specs.Belongs.{eventBytes, ownPlace, ownBytes}
 use Rattle.gather.specs.Gather.{gathering, fresh, eventGood, inPacket, stateGood, kept, added, next, numberOf, Outcome}
 use Rattle.gather.specs.Gather.{verdictNumber, given, gatherOf, storeOf, givenHeld, bytesOf, Possible}
 use Rattle.gather.specs.Units.{Standing, standing, packetOf, answered, called, gatherAll, answers, readAt, bytesAt, bytesAtAll}
@@ -121,50 +117,30 @@ module _ (g : Gathering) (p : List ℕ) (e : Event) (s : List ℕ) where
           (length-placed s k a, placed-before s k a h, placed-after s k a h)
       go false f = (refl, λ i h. refl, λ i h. refl)
 
--- ---- what belongs to a unit lies within the bytes of its begin
+-- ---- what belongs to a unit, and that it lies within the bytes of its begin
 
 module _ (xs : List ℕ) where
-  later-within : (k : ℕ) (a : Answer) (n : ℕ) → (a .number ≡ 0 → getD (a .values) 0 0 + getD (a .values) 1 0 ≤ n)
-      → later k a .number ≡ 0 → getD (later k a .values) 0 0 + getD (later k a .values) 1 0 ≤ k + n
-  later-within k a n h = go (eqb (a .number) 0) refl
-    where
-      go : (t : Bool) → eqb (a .number) 0 ≡ t → pick t (answer 0 ((k + getD (a .values) 0 0) ∷ getD (a .values) 1 0 ∷ [])) a .number ≡ 0
-          → getD (pick t (answer 0 ((k + getD (a .values) 0 0) ∷ getD (a .values) 1 0 ∷ [])) a .values) 0 0
-          + getD (pick t (answer 0 ((k + getD (a .values) 0 0) ∷ getD (a .values) 1 0 ∷ [])) a .values) 1 0 ≤ k + n
-      go true e z = omega (arith, h (eqb-true (a .number) 0 e))
-      go false e z = absurd (eqb-false (a .number) 0 e z)
-
-  pub belongs-within : Within (belongs xs) xs
-  unfolding belongs
-  belongs-within z =
-      let b = pick (parsedId (idOf xs)) (later 6 (readPayload (drop 6 xs))) (contentsPart xs) in
-      let h = headed-done xs b z in
-      rw (h .1 b) (go (h .0) (parsedId (idOf xs)) (ap (λ (a : Answer). a .number) (sym (h .1 b)) ∙ z))
-    where
-      go : 6 ≤ length xs → (t : Bool) → pick t (later 6 (readPayload (drop 6 xs))) (contentsPart xs) .number ≡ 0
-          → getD (pick t (later 6 (readPayload (drop 6 xs))) (contentsPart xs) .values) 0 0
-          + getD (pick t (later 6 (readPayload (drop 6 xs))) (contentsPart xs) .values) 1 0 ≤ length xs
-      go l true y =
-          let c = drop 6 xs in
-          omega (arith, length-drop 6 xs, later-within 6 (readPayload c) (length c) (payload-within c) y)
-      go l false y = contents-within xs y
+  -- they are the payload of the header that the begin names
+  pub own-payload : ownBytes xs ≡ payloadBytes xs
+  unfolding ownBytes
+  own-payload = refl
 
   -- by place and length
   pub own-part : (ownPlace xs + length (ownBytes xs) ≤ length xs) × (partAt (ownPlace xs) (length (ownBytes xs)) xs ≡ ownBytes xs)
-  unfolding ownPlace ownBytes partOf
-  own-part = go (eqb (belongs xs .number) 0) refl
+  unfolding ownPlace ownBytes payloadBytes partOf
+  own-part = go (eqb (headerPayload xs .number) 0) refl
     where
       p : ℕ
-      p = getD (belongs xs .values) 0 0
+      p = getD (headerPayload xs .values) 0 0
 
       n : ℕ
-      n = getD (belongs xs .values) 1 0
+      n = getD (headerPayload xs .values) 1 0
 
-      go : (t : Bool) → eqb (belongs xs .number) 0 ≡ t
+      go : (t : Bool) → eqb (headerPayload xs .number) 0 ≡ t
           → (pick t p 0 + length (pick t (take n (drop p xs)) []) ≤ length xs)
           × (partAt (pick t p 0) (length (pick t (take n (drop p xs)) [])) xs ≡ pick t (take n (drop p xs)) [])
       go true e =
-          let w : p + n ≤ length xs = belongs-within (eqb-true (belongs xs .number) 0 e) in
+          let w : p + n ≤ length xs = payload-within xs (eqb-true (headerPayload xs .number) 0 e) in
           let l : length (take n (drop p xs)) ≡ n = length-take-le n (drop p xs) (simp length-drop (omega arith)) in
           (omega arith, rw l (sym (part-in p n xs w)))
       go false e = (omega arith, sym (part-in 0 0 xs (omega arith)))

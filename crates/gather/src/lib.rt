@@ -11,9 +11,8 @@ ghost use Rattle.gather.specs.Belongs.{ownPlace, ownBytes};
 ghost use Rattle.gather.specs.Gather.{gathering, fresh, eventGood, inPacket, stateGood, Possible, moved};
 ghost use Rattle.gather.specs.Gather.{outcome, given, gatherOf, storeOf, readOf, givenHeld, bytesOf};
 use bits::part;
-use contents::PartRead;
 use log::Event;
-use pes::ContentsRead;
+use pes_header::PayloadRead;
 
 pub mod row;
 
@@ -81,35 +80,19 @@ struct Part {
     length: usize,
 }
 
-// Of the bytes of a begin those that belong to its unit: what follows the header, and none where that is refused.
-fn belongs(bytes: &[u8]) -> Part
+// Of the bytes of a begin those that belong to its unit: the payload, and none where the header is refused.
+fn own_part(bytes: &[u8]) -> Part
     ensures { λ r. ⌜ (r .place ≡ ownPlace (now (bytes .entry)))
         × (partAt (r .place) (r .length) (now (bytes .entry)) ≡ ownBytes (now (bytes .entry)))
         × (r .place + r .length ≤ length (now (bytes .entry))) ⌝ }
 {
-    match pes::contents(bytes) {
-        ContentsRead::ShortHeader => Part {
+    let PayloadRead::Done { place, length } = pes_header::payload_at(bytes) else {
+        return Part {
             place: 0,
             length: 0,
-        },
-        ContentsRead::BadStartCode => Part {
-            place: 0,
-            length: 0,
-        },
-        ContentsRead::Payload { place, length } => Part { place, length },
-        ContentsRead::Parsed { place, length: _ } => {
-            let PartRead::Done { place: at, length } = contents::payload_at(&bytes[place..]) else {
-                return Part {
-                    place: 0,
-                    length: 0,
-                };
-            };
-            Part {
-                place: place + at,
-                length,
-            }
-        }
-    }
+        };
+    };
+    Part { place, length }
 }
 
 // ---- what cannot be
@@ -257,7 +240,7 @@ fn apply(g: Gathering, packet: &[u8], event: Event, store: &mut [u8]) -> Gathere
         });
     }
     if kind == BEGIN_PACKET {
-        let own = belongs(&packet[place..end]);
+        let own = own_part(&packet[place..end]);
         let at = place + own.place;
         let count = own.length;
         let last = at + count;

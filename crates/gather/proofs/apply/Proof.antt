@@ -58,8 +58,8 @@ returns-2 c =
     (not-false _ (c .before .before .if2 .left)) refl (moved-open _ _ _ _ o)
 
 -- a begin
-part-belongs-end : tie.Need-part-belongs-end
-part-belongs-end c =
+part-own-part-end : tie.Need-part-own-part-end
+part-own-part-end c =
     let d = c .before .before .before .before .before .before .before in omega (arith, part-inside (d .args .event) (d .pre .2))
 
 part-appends-end-2 : tie.Need-part-appends-end-2
@@ -68,7 +68,7 @@ part-appends-end-2 c =
     let d = b .before .before .before .before .before .before .before .before .before in
     let s = d .args in
     let k = b .before .before .if3 .taken in
-    let m = adds-begin (s .g) (s .packet .now) (s .event) (d .pre .0) (d .pre .2) _ _ k (b .belongs .ensures) in
+    let m = adds-begin (s .g) (s .packet .now) (s .event) (d .pre .0) (d .pre .2) _ _ k (b .own-part .ensures) in
     omega (arith, m .2)
 
 appends-requires-2 : tie.Need-appends-requires-2
@@ -77,7 +77,7 @@ appends-requires-2 c κs =
     let d = b .before .before .before .before .before .before .before .before .before in
     let s = d .args in
     let k = b .before .before .if3 .taken in
-    let m = adds-begin (s .g) (s .packet .now) (s .event) (d .pre .0) (d .pre .2) _ _ k (b .belongs .ensures) in
+    let m = adds-begin (s .g) (s .packet .now) (s .event) (d .pre .0) (d .pre .2) _ _ k (b .own-part .ensures) in
     (short _ _ _ (d .pre .0) (m .2), omega arith)
 
 returns-3 : tie.Need-returns-3
@@ -87,7 +87,7 @@ returns-3 c =
     let d = b .before .before .before .before .before .before .before .before .before in
     let s = d .args in
     let k = b .before .before .if3 .taken in
-    let m = adds-begin (s .g) (s .packet .now) (s .event) (d .pre .0) (d .pre .2) _ _ k (b .belongs .ensures) in
+    let m = adds-begin (s .g) (s .packet .now) (s .event) (d .pre .0) (d .pre .2) _ _ k (b .own-part .ensures) in
     apply-full _ _ _ _ (d .pre) _ _ _ m _ _ (part-cut _ _ _ (omega arith)) _ (a .appends2 .ensures) _ (c .full2 .ensures)
     (not-true _ (c .before .if4 .taken))
 
@@ -98,7 +98,7 @@ returns-4 c =
     let d = b .before .before .before .before .before .before .before .before .before in
     let s = d .args in
     let k = b .before .before .if3 .taken in
-    let m = adds-begin (s .g) (s .packet .now) (s .event) (d .pre .0) (d .pre .2) _ _ k (b .belongs .ensures) in
+    let m = adds-begin (s .g) (s .packet .now) (s .event) (d .pre .0) (d .pre .2) _ _ k (b .own-part .ensures) in
     apply-done _ _ _ _ (d .pre) _ _ _ m _ _ (part-cut _ _ _ (omega arith)) _ (a .appends2 .ensures) _ _ _ (c .accepted2 .ensures)
     (not-false _ (c .before .if4 .left)) (omega arith) (moved-begin _ _ _ _ k)
 
@@ -142,7 +142,7 @@ apply-spec =
     returns-2
     (λ c. search needs)
     (λ c. search needs)
-    part-belongs-end
+    part-own-part-end
     (λ c κs. search needs)
     (λ c. search needs)
     (λ c. search needs)
