@@ -104,7 +104,8 @@ fn dsm_trick_mode_end(buf: &[u8]) -> usize
     ensures { λ r. ⌜ (r ≡ copyInfoAt (now (buf .entry))) × (r ≤ 23) ⌝ }
 {
     let at = es_rate_end(buf);
-    if buf[1] / 8 % 2 == 0 {
+    let trick = buf[1] / 8 % 2;
+    if trick == 0 {
         return at;
     }
     at + 1

@@ -67,15 +67,15 @@ pub extern "C" fn cmv_machine_run(
         RowRead::Is(m) => {
             let r = machine::run(m, bytes, log);
             let v = r.verdict;
-            let number = number_of(v);
-            if number == 0 {
+            let word = number_of(v);
+            if word == 0 {
                 let n = r.machine;
                 let e = r.ended;
                 row::write(n, state);
                 *taken = r.packets as u64;
                 *ended = number_of(e) as u64;
             }
-            number
+            word
         }
         RowRead::Stray => {
             if bytes.len() % 188 != 0 {
