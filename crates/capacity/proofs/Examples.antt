@@ -61,9 +61,7 @@ permitted-some =
       route-good = refl;
       unit-good = refl;
       size-good = refl;
-      id-byte = omega arith;
-      trick-byte = omega arith;
-      crc-word = omega arith;
+      typed = record { id-byte = omega arith; trick-byte = omega arith; crc-word = omega arith };
     }
 
 -- with a bare id the payload begins right after the head: one packet has 178 bytes of it, for which the count is two

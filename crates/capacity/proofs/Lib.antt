@@ -7,5 +7,6 @@ pub mod Least
 pub mod Accepted
 pub mod Slices
 pub mod Gathered
+pub mod Delivered
 pub mod Theorems
 pub mod Examples

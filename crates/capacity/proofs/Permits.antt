@@ -94,13 +94,13 @@ module _ (r : Route) (u : Unit) (n : ℕ) (ok : Permitted r u n) where
       let g₅ = g₄ .1 in
       let g₆ = g₅ .1 in
       record {
-        id-byte = ok .id-byte;
+        id-byte = ok .typed .id-byte;
         id-parsed = g₁ .0;
         times-fit = times-true (u .times) (g₃ .0);
         escr-fits = escr-true (u .escr) (g₄ .0);
         rate-fits = fits-true 1 (2 ^ 22 - 1) (rateField (u .rate)) (g₅ .0);
-        trick-fits = ok .trick-byte;
+        trick-fits = ok .typed .trick-byte;
         copy-fits = fits-true 0 127 (byteField (u .copy)) (g₆ .0);
-        crc-fits = ok .crc-word;
+        crc-fits = ok .typed .crc-word;
         length-fits = leb-true (statedLength u n) 65535 (q .1 .0);
       }

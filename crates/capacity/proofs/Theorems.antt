@@ -7,142 +7,109 @@ use mathlib.Core.List.{List, [], _∷_, _++_, map}
 use Prim.Native.Nat.{ℕ, _+_, _-_, _*_, _/_, _≤_, _<_, min}
 use native.Mathlib.Omega.{arith}
 use native.Mathlib.Nat.{add-zero}
-use lib.ListN.{length, take, drop}
+use lib.ListN.{length, getD, drop}
 use lib.Seq.{take-at, drop-at}
 use lib.Dec.{ltb}
 use borrow.Author.Tests.{eq-eqb, ltb-true, ltb-false, le-ltb}
 use Rattle.bits.specs.Answer.{Answer, answer, pick, All}
-use Rattle.bits.specs.Numbers.{done, noRoom}
+use Rattle.bits.specs.Numbers.{done, badField, tooLong, noRoom}
 use Rattle.pes.specs.Stream.{parsedId}
 use Rattle.log.specs.Entry.{beginPacket}
 use Rattle.machine.specs.declared.Phase.the-variants.{Begin}
 use Rattle.machine.specs.declared.Last.the-variants.{Nothing}
 use Rattle.machine.specs.declared.Machine.{Machine}
-use Rattle.machine.specs.Events.{State, state, opened, run}
+use Rattle.machine.specs.Events.{State, state, run}
 use Rattle.machine.specs.Step.{stateOf, Stands}
 use Rattle.machine.specs.Run.{runOf, shifted}
-use Rattle.machine.specs.Run.{packetsOf as packetsIn}
 use Rattle.machine.proofs.Theorems.{run-taken, run-written, run-reads-back, run-shift}
-use Rattle.gather.specs.Units.{Standing, gatherAll, answers, readAt, unitBytes, lastOf, Good, Taken, Open}
-use Rattle.gather.proofs.Theorems.{gather-append, taken-append, gathering-open}
+use Rattle.gather.specs.Units.{Standing, gatherAll, answers, readAt, bytesAt, lastOf, Good, Taken, Open}
 use Rattle.writer.specs.declared.Route.{Route}
 use Rattle.writer.specs.declared.Unit.{Unit}
 use Rattle.writer.specs.Unit.{dataOf, countOf}
-use Rattle.writer.specs.Packets.{headerImage, packetsOf, flat}
-use Rattle.writer.specs.Writer.{writeOf, outputOf}
-use Rattle.gather.specs.Units.{bytesAt}
+use Rattle.writer.specs.Packets.{packetsOf, flat}
+use Rattle.writer.specs.Writer.{allOf, routeTests, unitTests, sizeTests, writeOf, outputOf}
 use Rattle.capacity.specs.Reads.{Delivers}
 use Rattle.capacity.specs.Accepted.{PacketsRead, HeaderRead}
-use Rattle.capacity.specs.Demand.{Permitted, Ready, endOf, continuesOf, eventsWritten, Strict, Logged, eventsLogged}
-use Rattle.capacity.proofs.Permits.{route-fits, unit-fits}
-use Rattle.capacity.proofs.HeaderBack.{length-back}
-use Rattle.capacity.proofs.Written.{written-count, all-packets, stream-length, stream-takes, unit-run, whole, first-is, unit-gives}
-use Rattle.capacity.proofs.Written.{unit-segments, unit-pids, unit-counters}
-use Rattle.capacity.proofs.Accepted.{read-carried, header-read}
+use Rattle.capacity.specs.Demand.{Typed, Permitted, Accepts, countGiven, outputBytes, outputPackets}
+use Rattle.capacity.specs.Demand.{Ready, endOf, continuesOf, Strict, Logged, eventsLogged}
+use Rattle.capacity.proofs.Permits.{unit-fits}
+use Rattle.capacity.proofs.Written.{written-count, all-packets, unit-run}
 use Rattle.capacity.proofs.Slices.{flat-length, packets-flat}
-use Rattle.capacity.proofs.Gathered.{continues-kind, continues-inside, part-inside, opened-taken, long-enough}
+use Rattle.capacity.proofs.Delivered.{permitted-written, permitted-accepted, permitted-header, permitted-gathered}
 use Rattle.capacity.proofs.Least.{least-segment, segment-within}
 
--- ---- 1. whatever packets deliver a unit, from whatever state, are at least its count
+-- ---- 1. what the writer accepts: units that are permitted, where they have room
 
--- of what is permitted this needs that the id is one of parsed contents, and nothing else
-pub least : (u : Unit) (payload : List ℕ) (s : State) (ps : List (List ℕ)) → parsedId (u .id) ≡ true → Delivers u payload s ps
-    → countOf u (length payload) ≤ length ps
-least u payload s ps p d =
-    let w = segment-within 0 s ps (d .segment-of) (d .one) in
-    omega (arith, w .0, least-segment ps u payload (d .segment-of) p (w .1) (d .gives))
+-- the writer's four tests in their order, with so many packets where all are passed
+abbrev tested : Bool → Bool → Bool → Bool → ℕ → Answer
+tested a b c d k =
+    pick a
+    (pick b
+    (pick c (pick d (answer noRoom []) (answer done (k ∷ []))) (answer tooLong []))
+    (answer badField []))
+    (answer badField [])
 
--- ---- 2. the writer's packets deliver the unit as it is asked to, and are its count (`written-count`, in Written.antt)
+abbrev Unrefused : Answer → Type 0
+Unrefused a = (a .number ≡ badField → ⊥) × (a .number ≡ tooLong → ⊥)
 
-pub written : (r : Route) (u : Unit) (payload : List ℕ) (s : State) → Permitted r u (length payload) → Ready r s
-    → Strict r u payload s (packetsOf r u payload)
-written r u payload s ok f =
-    let n = length payload in
-    let k = sym (written-count r u payload) in
-    record {
-      ready = f;
-      pids = unit-pids r u payload ok;
-      counters = unit-counters r u payload ok;
-      events = unit-run r u payload ok s f ∙ ap (λ (m : ℕ). eventsWritten (s .phase) m (9 + dataOf u + n)) k;
-      delivers = record {
-        packets = all-packets r u payload;
-        segment-of = whole r u payload ok;
-        one = unit-segments r u payload ok s f;
-        gives = unit-gives r u payload ok;
-      };
-      stated = rw (first-is r u payload ok) (length-back u n (unit-fits r u n ok) (take (175 - dataOf u) payload));
-    }
+three-passed : (a b c d : Bool) (k : ℕ) → Unrefused (tested a b c d k) → (a ≡ true) × (b ≡ true) × (c ≡ true)
+three-passed true true true d k h = (refl, refl, refl)
+three-passed true true false d k h = absurd (h .1 refl)
+three-passed true false c d k h = absurd (h .0 refl)
+three-passed false b c d k h = absurd (h .0 refl)
 
--- ---- 3. 19 exactly when no packets that fit deliver it: in any way, or as it is asked to
+all-passed : (a b c d : Bool) (k : ℕ) → tested a b c d k .number ≡ done → tested a b c d k ≡ answer done (k ∷ [])
+all-passed true true true false k h = refl
+all-passed true true true true k h = let z : _≡_ {A = ℕ} 19 0 = h in absurd (omega arith)
+all-passed true true false d k h = let z : _≡_ {A = ℕ} 18 0 = h in absurd (omega arith)
+all-passed true false c d k h = let z : _≡_ {A = ℕ} 17 0 = h in absurd (omega arith)
+all-passed false b c d k h = let z : _≡_ {A = ℕ} 17 0 = h in absurd (omega arith)
 
-module _ (r : Route) (u : Unit) (payload : List ℕ) (ok : Permitted r u (length payload)) where
-  abbrev count : ℕ
-  count = countOf u (length payload)
+unrefused : (d : Bool) (k : ℕ) → Unrefused (pick d (answer noRoom []) (answer done (k ∷ [])))
+unrefused true k = (λ z. let y : _≡_ {A = ℕ} 19 17 = z in omega arith, λ z. let y : _≡_ {A = ℕ} 19 18 = z in omega arith)
+unrefused false k = (λ z. let y : _≡_ {A = ℕ} 0 17 = z in omega arith, λ z. let y : _≡_ {A = ℕ} 0 18 = z in omega arith)
 
-  writes-by : (out : List ℕ) → writeOf r u payload out ≡ pick (ltb (length out / 188) count) (answer noRoom []) (answer done (count ∷ []))
+module _ (r : Route) (u : Unit) (payload out : List ℕ) where
+  abbrev narrow : Bool
+  narrow = ltb (length out / 188) (countOf u (length payload))
+
+  writes : writeOf r u payload out
+      ≡ tested (allOf (routeTests r)) (allOf (unitTests u)) (allOf (sizeTests u (length payload))) narrow (countOf u (length payload))
   unfolding writeOf
-  writes-by out = rw (ok .route-good, ok .unit-good, ok .size-good)
+  writes = refl
 
-  pub has-room : (out : List ℕ) → 188 * count ≤ length out → writeOf r u payload out ≡ answer done (count ∷ [])
-  has-room out h = writes-by out ∙ rw (le-ltb (length out / 188) count (omega arith))
+  unrefused-permitted : Typed u → Unrefused (writeOf r u payload out) → Permitted r u (length payload)
+  unrefused-permitted t h =
+      let p = three-passed (allOf (routeTests r)) (allOf (unitTests u)) (allOf (sizeTests u (length payload))) narrow _ (rw writes at h) in
+      record { route-good = p .0; unit-good = p .1; size-good = p .2; typed = t }
 
-  is-19 : (b : Bool) (m : ℕ) → pick b (answer noRoom []) (answer done (m ∷ [])) ≡ answer noRoom [] → b ≡ true
-  is-19 true m e = refl
-  is-19 false m e = let z : _≡_ {A = ℕ} 0 19 = ap (λ (a : Answer). a .number) e in absurd (omega arith)
+  -- AN ACCEPTED CALL IS OF A PERMITTED UNIT, and is answered by its count
+  pub accepted-permitted : Accepts r u payload out → Typed u → Permitted r u (length payload)
+  accepted-permitted h t = unrefused-permitted t (λ z. omega (arith, h), λ z. omega (arith, h))
 
-  -- of any way to deliver that takes the count, and that the writer's packets have from some state
-  room-for : (A : State → List (List ℕ) → Type 0) → ((s : State) (ps : List (List ℕ)) → A s ps → count ≤ length ps)
-      → (s₀ : State) → A s₀ (packetsOf r u payload) → (out : List ℕ)
-      → (writeOf r u payload out ≡ answer noRoom []) ↔ ((s : State) (ps : List (List ℕ)) → 188 * length ps ≤ length out → A s ps → ⊥)
-  room-for A low s₀ h₀ out =
-      (λ e s ps fits d. omega (arith, short e, low s ps d), λ h. writes-by out ∙ go (ltb (length out / 188) count) refl h)
-    where
-      short : writeOf r u payload out ≡ answer noRoom [] → length out / 188 < count
-      short e = ltb-true (length out / 188) count (is-19 (ltb (length out / 188) count) count (sym (writes-by out) ∙ e))
+  pub accepted-answer : Accepts r u payload out → writeOf r u payload out ≡ answer done (countOf u (length payload) ∷ [])
+  accepted-answer h =
+      writes ∙ all-passed (allOf (routeTests r)) (allOf (unitTests u)) (allOf (sizeTests u (length payload))) narrow _ (rw writes at h)
 
-      go : (b : Bool) → ltb (length out / 188) count ≡ b → ((s : State) (ps : List (List ℕ)) → 188 * length ps ≤ length out → A s ps → ⊥)
-          → pick b (answer noRoom []) (answer done (count ∷ [])) ≡ answer noRoom []
-      go true e h = refl
-      go false e h =
-          absurd (h s₀ (packetsOf r u payload) (omega (arith, written-count r u payload, ltb-false (length out / 188) count e)) h₀)
+  pub accepted-count : Accepts r u payload out → countGiven r u payload out ≡ countOf u (length payload)
+  accepted-count h = ap (λ (a : Answer). getD (a .values) 0 0) (accepted-answer h)
 
-  abbrev fresh : State
-  fresh = state Begin Nothing
+  module _ (ok : Permitted r u (length payload)) where
+    pub permitted-answer : writeOf r u payload out ≡ pick narrow (answer noRoom []) (answer done (countOf u (length payload) ∷ []))
+    permitted-answer = writes ∙ rw (ok .route-good, ok .unit-good, ok .size-good)
 
-  fresh-written : Strict r u payload fresh (packetsOf r u payload)
-  fresh-written = written r u payload fresh ok (omega arith)
+    -- a permitted unit with room is accepted
+    pub has-room : 188 * countOf u (length payload) ≤ length out → writeOf r u payload out ≡ answer done (countOf u (length payload) ∷ [])
+    has-room h = permitted-answer ∙ rw (le-ltb (length out / 188) (countOf u (length payload)) (omega arith))
 
-  pub room-weak : (out : List ℕ) → (writeOf r u payload out ≡ answer noRoom [])
-      ↔ ((s : State) (ps : List (List ℕ)) → 188 * length ps ≤ length out → Delivers u payload s ps → ⊥)
-  room-weak =
-      let p = unit-fits r u (length payload) ok .id-parsed in
-      room-for (Delivers u payload) (λ s ps d. least u payload s ps p d) fresh (fresh-written .delivers)
+  -- 17 and 18 are what is not permitted, whatever the output
+  pub permitted-exactly : Typed u → Permitted r u (length payload)
+      ↔ ((writeOf r u payload out .number ≡ badField → ⊥) × (writeOf r u payload out .number ≡ tooLong → ⊥))
+  permitted-exactly t = (λ ok. rw (permitted-answer ok) (unrefused narrow _), unrefused-permitted t)
 
-  pub room-strict : (out : List ℕ) → (writeOf r u payload out ≡ answer noRoom [])
-      ↔ ((s : State) (ps : List (List ℕ)) → 188 * length ps ≤ length out → Strict r u payload s ps → ⊥)
-  room-strict =
-      let p = unit-fits r u (length payload) ok .id-parsed in
-      room-for (Strict r u payload) (λ s ps d. least u payload s ps p (d .delivers)) fresh fresh-written
+-- ---- 2. what it leaves in its output
 
-  -- ---- 4. every reader of packet and header accepts what is written, and finds nothing set that the unit does not name
-
-  pub accepted : PacketsRead true (r .pid) (r .counter) (9 + dataOf u + length payload) (packetsOf r u payload)
-  unfolding packetsOf
-  accepted =
-      let way = route-fits r u (length payload) ok in
-      let xs = headerImage u (length payload) ++ payload in
-      rw (← stream-length r u payload ok)
-      (read-carried count true (r .pid) (r .counter) xs (omega (arith, way .pid-high)) (way .counter-fits) (stream-takes r u payload ok))
-
-  -- the header stands in the bytes of the begin
-  pub accepted-header : let begin = endOf beginPacket 0 (min 184 (9 + dataOf u + length payload)) in
-      HeaderRead u (length payload) (bytesAt (packetsOf r u payload) begin)
-  accepted-header =
-      rw (first-is r u payload ok) (header-read u (length payload) (unit-fits r u (length payload) ok) (take (175 - dataOf u) payload))
-
--- ---- 5. over the promises of code: what `write` leaves in its output ..
-
-module _ (r : Route) (u : Unit) (payload out : List ℕ) (h : writeOf r u payload out .number ≡ done) where
+module _ (r : Route) (u : Unit) (payload out : List ℕ) (h : Accepts r u payload out) where
   abbrev size : ℕ
   size = 188 * countOf u (length payload)
 
@@ -157,30 +124,119 @@ module _ (r : Route) (u : Unit) (payload out : List ℕ) (h : writeOf r u payloa
   pub output-past : drop size (outputOf r u payload out) ≡ drop size out
   output-past = rw output-is (drop-at (flat (packetsOf r u payload)) (drop size out) size flat-size)
 
-  -- its first bytes are the packets, as `run` takes them
-  pub output-packets : packetsIn (take size (outputOf r u payload out)) ≡ packetsOf r u payload
-  output-packets =
-      let ps = packetsOf r u payload in
-      rw (output-is, take-at (flat ps) (drop size out) size flat-size) (packets-flat ps (all-packets r u payload))
+  output-flat : outputBytes r u payload out ≡ flat (packetsOf r u payload)
+  output-flat = rw (accepted-count r u payload out h, output-is) (take-at (flat (packetsOf r u payload)) (drop size out) size flat-size)
 
--- .. and what `run` over that leaves in a log.
--- THE OUTPUT OF `write`, TAKEN BY `run` with room in index and log, LEAVES EXACTLY THE UNIT'S EVENTS IN THE LOG
+  -- its first bytes are the packets, as `run` takes them
+  pub output-packets : outputPackets r u payload out ≡ packetsOf r u payload
+  output-packets = rw output-flat (packets-flat (packetsOf r u payload) (all-packets r u payload))
+
+-- ---- 3. whatever packets deliver a unit, from whatever state, are at least its count
+
+-- of what is permitted this needs that the id is one of parsed contents, and nothing else
+pub least : (u : Unit) (payload : List ℕ) (s : State) (ps : List (List ℕ)) → parsedId (u .id) ≡ true → Delivers u payload s ps
+    → countOf u (length payload) ≤ length ps
+least u payload s ps p d =
+    let w = segment-within 0 s ps (d .segment-of) (d .one) in
+    omega (arith, w .0, least-segment ps u payload (d .segment-of) p (w .1) (d .gives))
+
+-- ---- 4. WHAT THE WRITER ACCEPTS READS BACK WHOLE, and no run of fewer packets does so
+
+module _ (r : Route) (u : Unit) (payload out : List ℕ) (h : Accepts r u payload out) (typed : Typed u) where
+  abbrev ok : Permitted r u (length payload)
+  ok = accepted-permitted r u payload out h typed
+
+  -- what is in the output delivers the unit as it is asked to
+  pub written : (s : State) → Ready r s → Strict r u payload s (outputPackets r u payload out)
+  written s f = rw (output-packets r u payload out h) (permitted-written r u payload ok s f)
+
+  -- it is as many packets as the writer answers, and whatever packets deliver the unit, from whatever state, are no fewer
+  pub counted : length (outputPackets r u payload out) ≡ countGiven r u payload out
+  counted = rw (output-packets r u payload out h, accepted-count r u payload out h) (written-count r u payload)
+
+  pub fewest : (s : State) (ps : List (List ℕ)) → Delivers u payload s ps → countGiven r u payload out ≤ length ps
+  fewest s ps d = rw (accepted-count r u payload out h) (least u payload s ps (unit-fits r u (length payload) ok .id-parsed) d)
+
+  -- every reader of packet and header accepts it, and finds nothing set that the unit does not name
+  pub accepted : PacketsRead true (r .pid) (r .counter) (9 + dataOf u + length payload) (outputPackets r u payload out)
+  accepted = rw (output-packets r u payload out h) (permitted-accepted r u payload ok)
+
+  -- the header stands in the bytes of the begin
+  pub accepted-header : let begin = endOf beginPacket 0 (min 184 (9 + dataOf u + length payload)) in
+      HeaderRead u (length payload) (bytesAt (outputPackets r u payload out) begin)
+  accepted-header = rw (output-packets r u payload out h) (permitted-header r u payload ok)
+
+-- ---- 5. 19 exactly when no packets that fit deliver a permitted unit
+
+module _ (r : Route) (u : Unit) (payload : List ℕ) (ok : Permitted r u (length payload)) where
+  abbrev count : ℕ
+  count = countOf u (length payload)
+
+  is-19 : (b : Bool) (m : ℕ) → pick b (answer noRoom []) (answer done (m ∷ [])) ≡ answer noRoom [] → b ≡ true
+  is-19 true m e = refl
+  is-19 false m e = let z : _≡_ {A = ℕ} 0 19 = ap (λ (a : Answer). a .number) e in absurd (omega arith)
+
+  -- of any way to deliver that takes the count, and that the writer's packets have from some state
+  room-for : (A : State → List (List ℕ) → Type 0) → ((s : State) (ps : List (List ℕ)) → A s ps → count ≤ length ps)
+      → (s₀ : State) → A s₀ (packetsOf r u payload) → (out : List ℕ)
+      → (writeOf r u payload out ≡ answer noRoom []) ↔ ((s : State) (ps : List (List ℕ)) → 188 * length ps ≤ length out → A s ps → ⊥)
+  room-for A low s₀ h₀ out =
+      (λ e s ps fits d. omega (arith, short e, low s ps d), λ h. permitted-answer r u payload out ok ∙ go (ltb (length out / 188) count) refl h)
+    where
+      short : writeOf r u payload out ≡ answer noRoom [] → length out / 188 < count
+      short e = ltb-true (length out / 188) count (is-19 (ltb (length out / 188) count) count (sym (permitted-answer r u payload out ok) ∙ e))
+
+      go : (b : Bool) → ltb (length out / 188) count ≡ b → ((s : State) (ps : List (List ℕ)) → 188 * length ps ≤ length out → A s ps → ⊥)
+          → pick b (answer noRoom []) (answer done (count ∷ [])) ≡ answer noRoom []
+      go true e h = refl
+      go false e h =
+          absurd (h s₀ (packetsOf r u payload) (omega (arith, written-count r u payload, ltb-false (length out / 188) count e)) h₀)
+
+  abbrev fresh : State
+  fresh = state Begin Nothing
+
+  fresh-written : Strict r u payload fresh (packetsOf r u payload)
+  fresh-written = permitted-written r u payload ok fresh (omega arith)
+
+  enough : (s : State) (ps : List (List ℕ)) → Delivers u payload s ps → count ≤ length ps
+  enough s ps d = least u payload s ps (unit-fits r u (length payload) ok .id-parsed) d
+
+  -- from a machine with no last counter or the one just before
+  pub room : (out : List ℕ) → (writeOf r u payload out ≡ answer noRoom [])
+      ↔ ((s : State) (ps : List (List ℕ)) → Ready r s → 188 * length ps ≤ length out → Delivers u payload s ps → ⊥)
+  room out =
+      let e = room-for (λ s ps. Ready r s × Delivers u payload s ps) (λ s ps d. enough s ps (d .1)) fresh (omega arith, fresh-written .delivers) out in
+      (λ a s ps f fits d. e .0 a s ps fits (f, d), λ a. e .1 (λ s ps fits d. a s ps (d .0) fits (d .1)))
+
+  -- from any machine
+  pub room-weak : (out : List ℕ) → (writeOf r u payload out ≡ answer noRoom [])
+      ↔ ((s : State) (ps : List (List ℕ)) → 188 * length ps ≤ length out → Delivers u payload s ps → ⊥)
+  room-weak = room-for (Delivers u payload) enough fresh (fresh-written .delivers)
+
+  -- as the unit is asked to be delivered
+  pub room-strict : (out : List ℕ) → (writeOf r u payload out ≡ answer noRoom [])
+      ↔ ((s : State) (ps : List (List ℕ)) → 188 * length ps ≤ length out → Strict r u payload s ps → ⊥)
+  room-strict = room-for (Strict r u payload) (λ s ps d. enough s ps (d .delivers)) fresh fresh-written
+
+-- ---- 6. THE OUTPUT OF `write`, TAKEN BY `run` with room in index and log, LEAVES EXACTLY THE UNIT'S EVENTS IN THE LOG
+
 pub logged : (r : Route) (u : Unit) (payload out : List ℕ) (m : Machine) (log : List ℕ)
-    → Permitted r u (length payload) → writeOf r u payload out .number ≡ done
-    → Ready r (stateOf m) → Stands m log → m .taken + countOf u (length payload) ≤ 4_294_967_295
+    → Accepts r u payload out → Typed u
+    → Ready r (stateOf m) → Stands m log → m .taken + countGiven r u payload out ≤ 4_294_967_295
     → m .place + 8 * length (eventsLogged u (length payload) m) ≤ length log
-    → let output = take (188 * countOf u (length payload)) (outputOf r u payload out) in
-    Logged m log (runOf m (packetsIn output) log) (countOf u (length payload)) (eventsLogged u (length payload) m)
-logged r u payload out m log ok h f s t l =
+    → Logged m log (runOf m (outputPackets r u payload out) log) (countGiven r u payload out) (eventsLogged u (length payload) m)
+logged r u payload out m log h typed f s t l =
+    let ok = accepted-permitted r u payload out h typed in
     let ps = packetsOf r u payload in
     let n = written-count r u payload in
+    let c = accepted-count r u payload out h in
     let e : run (m .taken) (stateOf m) ps ≡ eventsLogged u (length payload) m
     = ap (λ (i : ℕ). run i (stateOf m) ps) (sym (add-zero (m .taken)))
     ∙ (run-shift (m .taken) 0 (stateOf m) ps ∙ ap (map (shifted (m .taken))) (unit-run r u payload ok (stateOf m) f)) in
     let room : m .place + 8 * length (run (m .taken) (stateOf m) ps) ≤ length log = rw e l in
-    let long : m .taken + length ps ≤ 4_294_967_295 = rw n t in
+    let long : m .taken + length ps ≤ 4_294_967_295 = omega (arith, n, c) in
     let a = run-taken ps m log s (all-packets r u payload) long room in
-    rw (output-packets r u payload out h, ← e) (record {
+    rw (output-packets r u payload out h, c, ← e) (record {
       accepted = a .0;
       taken = a .1 ∙ ap (λ (k : ℕ). m .taken + k) n;
       place = a .2;
@@ -188,35 +244,17 @@ logged r u payload out m log ok h f s t l =
       reads-back = run-reads-back ps m log s (all-packets r u payload) long room;
     })
 
--- ---- 6. what was written, taken by the machine and gathered in a store, is the payload
+-- ---- 7. what was written, taken by the machine and gathered in a store, is the payload
 
 -- every call is answered by 0; a unit is open whose bytes are the payload, and they are what is read out
-pub unit-gathered : (r : Route) (u : Unit) (payload : List ℕ) (s : State) (t : Standing)
-    → Permitted r u (length payload) → Ready r s → Good t → length payload ≤ length (t .store)
-    → let ps = packetsOf r u payload in
-    let cs = continuesOf 1 (countOf u (length payload) - 1) (9 + dataOf u + length payload - 184) in
+pub unit-gathered : (r : Route) (u : Unit) (payload out : List ℕ) (s : State) (t : Standing)
+    → Accepts r u payload out → Typed u → Ready r s → Good t → length payload ≤ length (t .store)
+    → let ps = outputPackets r u payload out in
+    let cs = continuesOf 1 (countGiven r u payload out - 1) (9 + dataOf u + length payload - 184) in
     let b = endOf beginPacket 0 (min 184 (9 + dataOf u + length payload)) in
     All Taken (answers ps t (run 0 s ps))
     × Open payload (length (t .store)) (gatherAll ps t (run 0 s ps))
     × (readAt ps (gatherAll ps t (run 0 s ps)) (lastOf b cs) ≡ payload)
-unfolding eventsWritten unitBytes
-unit-gathered r u payload s t ok f good room =
-    let ps = packetsOf r u payload in
-    let n = length payload in
-    let m = 9 + dataOf u + n in
-    let k = countOf u n in
-    let b = endOf beginPacket 0 (min 184 m) in
-    let cs = continuesOf 1 (k - 1) (m - 184) in
-    let long : 1 + (k - 1) ≤ length ps = long-enough r u payload in
-    let all = all-packets r u payload in
-    let es = opened (s .phase) 0 in
-    let o = opened-taken ps all t good (omega arith) (s .phase) in
-    let t₁ = gatherAll ps t es in
-    let e : run 0 s ps ≡ es ++ (b ∷ cs) = unit-run r u payload ok s f in
-    let q : unitBytes ps b cs ≡ payload = unit-gives r u payload ok .payload-joined in
-    let h = ap length q in
-    let kinds = continues-kind 1 (k - 1) (m - 184) in
-    let inside = continues-inside ps 1 (k - 1) (m - 184) long in
-    let w = gathering-open ps all t₁ (o .1) b cs refl (omega arith, part-inside m) kinds inside (omega (arith, o .2)) in
-    rw (e, gather-append ps t es (b ∷ cs))
-    (taken-append ps t es (b ∷ cs) (o .0) (w .0), (rw (q, o .2) at (w .1)), w .2 ∙ q)
+unit-gathered r u payload out s t h typed f good room =
+    rw (output-packets r u payload out h, accepted-count r u payload out h)
+    (permitted-gathered r u payload (accepted-permitted r u payload out h typed) s t f good room)

@@ -3,7 +3,7 @@ use mathlib.Core.Path.{_≡_}
 use mathlib.Core.Bool.{true}
 use mathlib.Core.List.{List, [], _∷_, _++_, map}
 use Prim.Native.Nat.{ℕ, zero, suc, _+_, _-_, _*_, _%_, _≤_, _<_, min}
-use lib.ListN.{length, getD}
+use lib.ListN.{length, getD, take}
 use lib.Seq.{sets}
 use Rattle.bits.specs.Answer.{answer, All}
 use Rattle.bits.specs.Numbers.{done}
@@ -16,11 +16,11 @@ use Rattle.machine.specs.declared.Last.{Last}
 use Rattle.machine.specs.declared.Last.the-variants.{Nothing, At}
 use Rattle.machine.specs.declared.Machine.{Machine}
 use Rattle.machine.specs.Events.{State, opened, run}
-use Rattle.machine.specs.Run.{Ran, shifted}
+use Rattle.machine.specs.Run.{packetsOf, Ran, shifted}
 use Rattle.writer.specs.declared.Route.{Route}
 use Rattle.writer.specs.declared.Unit.{Unit}
 use Rattle.writer.specs.Unit.{byteField, crcField, Field, absent, holds, dataOf, statedLength, countOf}
-use Rattle.writer.specs.Writer.{allOf, routeTests, unitTests, sizeTests}
+use Rattle.writer.specs.Writer.{allOf, routeTests, unitTests, sizeTests, writeOf, outputOf}
 use Rattle.gather.specs.Units.{bytesAt}
 use Rattle.capacity.specs.Reads.{Delivers}
 
@@ -30,14 +30,35 @@ abbrev pub atMost : ℕ → Field → Type 0
 atMost z absent = 0 ≤ 0
 atMost z (holds v) = v ≤ z
 
--- neither 17 nor 18; and the id, the trick mode byte and the CRC field are numbers of their types, as they are in every call
+-- the fields that the writer does not test are numbers of their types: every value of the type Unit is such, as id and trick mode byte
+-- are u8 and the CRC field is u16
+pub record Typed (u : Unit) : Type 0 where
+  pub id-byte : u .id ≤ 255
+  pub trick-byte : atMost 255 (byteField (u .trick))
+  pub crc-word : atMost 65535 (crcField (u .crc))
+
+-- neither 17 nor 18
 pub record Permitted (r : Route) (u : Unit) (n : ℕ) : Type 0 where
   pub route-good : allOf (routeTests r) ≡ true
   pub unit-good : allOf (unitTests u) ≡ true
   pub size-good : allOf (sizeTests u n) ≡ true
-  pub id-byte : u .id ≤ 255
-  pub trick-byte : atMost 255 (byteField (u .trick))
-  pub crc-word : atMost 65535 (crcField (u .crc))
+  pub typed : Typed u
+
+-- ---- what `write` gives, by its promise: it accepts where it answers 0
+
+abbrev pub Accepts : Route → Unit → List ℕ → List ℕ → Type 0
+Accepts r u payload out = writeOf r u payload out .number ≡ done
+
+-- the count that it answers
+abbrev pub countGiven : Route → Unit → List ℕ → List ℕ → ℕ
+countGiven r u payload out = getD (writeOf r u payload out .values) 0 0
+
+-- so many packets of its output, as bytes and as `run` takes them
+abbrev pub outputBytes : Route → Unit → List ℕ → List ℕ → List ℕ
+outputBytes r u payload out = take (188 * countGiven r u payload out) (outputOf r u payload out)
+
+abbrev pub outputPackets : Route → Unit → List ℕ → List ℕ → List (List ℕ)
+outputPackets r u payload out = packetsOf (outputBytes r u payload out)
 
 -- no last counter, or the one before the first: any phase
 abbrev pub Before : ℕ → Last → Type 0
