@@ -3,13 +3,18 @@
 -- Assumes nothing.
 use mathlib.Core.Path.{_≡_, refl, sym, ap, _∙_}
 use mathlib.Core.Bool.{true}
-use mathlib.Core.List.{List, _∷_, _++_}
+use mathlib.Core.List.{List, _∷_, _++_, map}
 use Prim.Native.Nat.{ℕ, _+_, _-_, _≤_, min}
 use native.Mathlib.Omega.{arith}
+use native.Mathlib.Nat.{add-zero}
 use lib.ListN.{length, take}
 use Rattle.bits.specs.Answer.{All}
 use Rattle.log.specs.Entry.{beginPacket}
+use Rattle.machine.specs.declared.Machine.{Machine}
 use Rattle.machine.specs.Events.{State, opened, run}
+use Rattle.machine.specs.Step.{stateOf}
+use Rattle.machine.specs.Run.{shifted}
+use Rattle.machine.proofs.Theorems.{run-shift}
 use Rattle.gather.specs.Units.{Standing, gatherAll, answers, readAt, bytesAt, unitBytes, lastOf, Good, Taken, Open}
 use Rattle.gather.proofs.Theorems.{gather-append, taken-append, gathering-open}
 use Rattle.writer.specs.declared.Route.{Route}
@@ -17,7 +22,7 @@ use Rattle.writer.specs.declared.Unit.{Unit}
 use Rattle.writer.specs.Unit.{dataOf, countOf}
 use Rattle.writer.specs.Packets.{headerImage, packetsOf}
 use Rattle.capacity.specs.Accepted.{PacketsRead, HeaderRead}
-use Rattle.capacity.specs.Demand.{Permitted, Ready, endOf, continuesOf, eventsWritten, Strict}
+use Rattle.capacity.specs.Demand.{Permitted, Ready, endOf, continuesOf, eventsWritten, eventsLogged, Strict}
 use Rattle.capacity.proofs.Permits.{route-fits, unit-fits}
 use Rattle.capacity.proofs.HeaderBack.{length-back}
 use Rattle.capacity.proofs.Written.{written-count, all-packets, stream-length, stream-takes, unit-run, whole, first-is, unit-gives}
@@ -43,6 +48,14 @@ module _ (r : Route) (u : Unit) (payload : List ℕ) (ok : Permitted r u (length
         };
         stated = rw (first-is r u payload ok) (length-back u n (unit-fits r u n ok) (take (175 - dataOf u) payload));
       }
+
+  -- the same with the machine's own index
+  pub permitted-events : (m : Machine) → Ready r (stateOf m)
+      → run (m .taken) (stateOf m) (packetsOf r u payload) ≡ eventsLogged u (length payload) m
+  permitted-events m f =
+      let ps = packetsOf r u payload in
+      ap (λ (i : ℕ). run i (stateOf m) ps) (sym (add-zero (m .taken)))
+      ∙ (run-shift (m .taken) 0 (stateOf m) ps ∙ ap (map (shifted (m .taken))) (unit-run r u payload ok (stateOf m) f))
 
   pub permitted-accepted : PacketsRead true (r .pid) (r .counter) (9 + dataOf u + length payload) (packetsOf r u payload)
   unfolding packetsOf

@@ -18,6 +18,7 @@ use Rattle.log.specs.Entry.{event, beginPacket}
 use Rattle.machine.specs.declared.Phase.the-variants.{Begin}
 use Rattle.machine.specs.declared.Last.the-variants.{Nothing}
 use Rattle.machine.specs.Events.{state, startFlag, headAccepted, continuous, begun, eventsOf, run}
+use Rattle.machine.specs.Step.{fresh}
 use Rattle.gather.specs.Belongs.{eventBytes, belongs, ownBytes}
 use Rattle.writer.specs.declared.Route.{Route}
 use Rattle.writer.specs.declared.Times.{Times}
@@ -28,10 +29,14 @@ use Rattle.writer.specs.declared.Byte.{Byte}
 use Rattle.writer.specs.declared.Crc.{Crc}
 use Rattle.writer.specs.declared.Unit.{Unit}
 use Rattle.writer.specs.Unit.{dataOf, statedLength, countOf}
-use Rattle.writer.specs.Writer.{routeTests, unitTests, sizeTests}
-use Rattle.gather.specs.Units.{bytesAt}
+use Rattle.writer.specs.Writer.{routeTests, unitTests, sizeTests, writeOf}
+use Rattle.gather.specs.Gather.{stateGood}
+use Rattle.gather.specs.Gather.{fresh as closed}
+use Rattle.gather.specs.Units.{standing, bytesAt}
 use Rattle.capacity.specs.Reads.{upToBegin, segment, segments, HasFields, Delivers}
-use Rattle.capacity.specs.Demand.{Permitted}
+use Rattle.capacity.specs.Demand.{Permitted, Accepts, countGiven, outputBytes, continuesOf, eventsWritten}
+use Rattle.capacity.specs.ReadBack.{ReadBack}
+use Rattle.capacity.proofs.Theorems.{read-back}
 
 abbrev unit : ℕ → Bool → Times → Unit
 unit i b t =
@@ -63,6 +68,22 @@ permitted-some =
       size-good = refl;
       typed = record { id-byte = omega arith; trick-byte = omega arith; crc-word = omega arith };
     }
+
+-- a call that is accepted, with a payload of one byte, read back by a machine before its first packet
+abbrev small : Unit
+small = unit 0xE0 true (Pts 90_000)
+
+accepted-some : Accepts way small (7 ∷ []) (replicate 188 0)
+unfolding writeOf routeTests unitTests sizeTests statedLength countOf dataOf parsedId
+accepted-some = refl
+
+pub read-back-some : ReadBack way small (7 ∷ []) (countGiven way small (7 ∷ []) (replicate 188 0))
+    (outputBytes way small (7 ∷ []) (replicate 188 0)) fresh (replicate 16 0) (standing closed (0 ∷ []))
+unfolding stateGood writeOf routeTests unitTests sizeTests statedLength countOf dataOf parsedId eventsWritten continuesOf
+read-back-some =
+    read-back way small (7 ∷ []) (replicate 188 0) fresh (replicate 16 0) (standing closed (0 ∷ [])) accepted-some
+    (record { id-byte = omega arith; trick-byte = omega arith; crc-word = omega arith })
+    (omega arith) (refl, omega arith, refl) (omega arith) (omega arith) refl (omega arith)
 
 -- with a bare id the payload begins right after the head: one packet has 178 bytes of it, for which the count is two
 abbrev bare : Unit

@@ -1,41 +1,49 @@
 -- Demand 3: what the writer accepts reads back whole, in the fewest packets, and 19 is given exactly when no packets that fit would do.
 -- Assumes nothing.
-use mathlib.Core.Path.{_≡_, refl, sym, ap, _∙_}
+use mathlib.Core.Path.{_≡_, refl, sym, ap, ap₂, subst, _∙_}
 use mathlib.Core.Logic.{_↔_}
 use mathlib.Core.Bool.{Bool, true, false}
 use mathlib.Core.List.{List, [], _∷_, _++_, map}
-use Prim.Native.Nat.{ℕ, _+_, _-_, _*_, _/_, _≤_, _<_, min}
+use Prim.Native.Nat.{ℕ, _+_, _-_, _*_, _/_, _%_, _≤_, _<_, min}
 use native.Mathlib.Omega.{arith}
-use native.Mathlib.Nat.{add-zero}
-use lib.ListN.{length, getD, drop}
+use lib.ListN.{length, getD, take, drop}
 use lib.Seq.{take-at, drop-at}
 use lib.Dec.{ltb}
 use borrow.Author.Tests.{eq-eqb, ltb-true, ltb-false, le-ltb}
 use Rattle.bits.specs.Answer.{Answer, answer, pick, All}
 use Rattle.bits.specs.Numbers.{done, badField, tooLong, noRoom}
 use Rattle.pes.specs.Stream.{parsedId}
+use Rattle.log.specs.declared.Event.{Event}
 use Rattle.log.specs.Entry.{beginPacket}
 use Rattle.machine.specs.declared.Phase.the-variants.{Begin}
 use Rattle.machine.specs.declared.Last.the-variants.{Nothing}
 use Rattle.machine.specs.declared.Machine.{Machine}
-use Rattle.machine.specs.Events.{State, state, run}
+use Rattle.machine.specs.Events.{State, state, opened, run}
 use Rattle.machine.specs.Step.{stateOf, Stands}
-use Rattle.machine.specs.Run.{runOf, shifted}
-use Rattle.machine.proofs.Theorems.{run-taken, run-written, run-reads-back, run-shift}
-use Rattle.gather.specs.Units.{Standing, gatherAll, answers, readAt, bytesAt, lastOf, Good, Taken, Open}
+use Rattle.machine.specs.Run.{reportOf, ranLog, IsPacket}
+use Rattle.gather.specs.Gather.{readOf, bytesOf}
+use Rattle.gather.specs.Units.{Standing, packetOf, gatherAll, answers, readAt, bytesAt, lastOf, Inside, Good, Taken, Open}
+use Rattle.gather.proofs.Laws.{read-done}
 use Rattle.writer.specs.declared.Route.{Route}
 use Rattle.writer.specs.declared.Unit.{Unit}
 use Rattle.writer.specs.Unit.{dataOf, countOf}
 use Rattle.writer.specs.Packets.{packetsOf, flat}
 use Rattle.writer.specs.Writer.{allOf, routeTests, unitTests, sizeTests, writeOf, outputOf}
-use Rattle.capacity.specs.Reads.{Delivers}
+use Rattle.capacity.specs.Reads.{segment, segments, Delivers}
 use Rattle.capacity.specs.Accepted.{PacketsRead, HeaderRead}
 use Rattle.capacity.specs.Demand.{Typed, Permitted, Accepts, countGiven, outputBytes, outputPackets}
-use Rattle.capacity.specs.Demand.{Ready, endOf, continuesOf, Strict, Logged, eventsLogged}
+use Rattle.capacity.specs.Demand.{Ready, endOf, continuesOf, eventsWritten, Strict, Logged, eventsLogged}
+use Rattle.capacity.specs.ReadBack.{none, eventsRead, eventsAdded, packetAt, callNumbers, afterCalls, ReadBack}
 use Rattle.capacity.proofs.Permits.{unit-fits}
+use Rattle.capacity.proofs.Carried.{one-segment}
 use Rattle.capacity.proofs.Written.{written-count, all-packets, unit-run}
+use Rattle.capacity.proofs.Gathered.{part-inside, continues-inside, long-enough}
+use Rattle.capacity.proofs.Calls.{events-read, packet-at, bytes-shifted, numbers-shifted, calls-shifted, shiftedSegment, segments-shifted}
+use Rattle.capacity.proofs.Calls.{last-past, last-inside}
+use Rattle.capacity.proofs.Lower.{packet-there, run-logged}
 use Rattle.capacity.proofs.Slices.{flat-length, packets-flat}
-use Rattle.capacity.proofs.Delivered.{permitted-written, permitted-accepted, permitted-header, permitted-gathered}
+use Rattle.capacity.proofs.Delivered.{permitted-written, permitted-events, permitted-accepted, permitted-header}
+use Rattle.capacity.proofs.Delivered.{permitted-gathered}
 use Rattle.capacity.proofs.Least.{least-segment, segment-within}
 
 -- ---- 1. what the writer accepts: units that are permitted, where they have room
@@ -125,7 +133,12 @@ module _ (r : Route) (u : Unit) (payload out : List ℕ) (h : Accepts r u payloa
   output-past = rw output-is (drop-at (flat (packetsOf r u payload)) (drop size out) size flat-size)
 
   output-flat : outputBytes r u payload out ≡ flat (packetsOf r u payload)
-  output-flat = rw (accepted-count r u payload out h, output-is) (take-at (flat (packetsOf r u payload)) (drop size out) size flat-size)
+  output-flat =
+      ap₂ (λ (k : ℕ) (xs : List ℕ). take (188 * k) xs) (accepted-count r u payload out h) output-is
+      ∙ take-at (flat (packetsOf r u payload)) (drop size out) size flat-size
+
+  output-size : length (outputBytes r u payload out) ≡ size
+  output-size = ap length output-flat ∙ flat-size
 
   -- its first bytes are the packets, as `run` takes them
   pub output-packets : outputPackets r u payload out ≡ packetsOf r u payload
@@ -224,25 +237,16 @@ pub logged : (r : Route) (u : Unit) (payload out : List ℕ) (m : Machine) (log 
     → Accepts r u payload out → Typed u
     → Ready r (stateOf m) → Stands m log → m .taken + countGiven r u payload out ≤ 4_294_967_295
     → m .place + 8 * length (eventsLogged u (length payload) m) ≤ length log
-    → Logged m log (runOf m (outputPackets r u payload out) log) (countGiven r u payload out) (eventsLogged u (length payload) m)
+    → Logged m (outputBytes r u payload out) log (countGiven r u payload out) (eventsLogged u (length payload) m)
 logged r u payload out m log h typed f s t l =
     let ok = accepted-permitted r u payload out h typed in
-    let ps = packetsOf r u payload in
-    let n = written-count r u payload in
-    let c = accepted-count r u payload out h in
-    let e : run (m .taken) (stateOf m) ps ≡ eventsLogged u (length payload) m
-    = ap (λ (i : ℕ). run i (stateOf m) ps) (sym (add-zero (m .taken)))
-    ∙ (run-shift (m .taken) 0 (stateOf m) ps ∙ ap (map (shifted (m .taken))) (unit-run r u payload ok (stateOf m) f)) in
-    let room : m .place + 8 * length (run (m .taken) (stateOf m) ps) ≤ length log = rw e l in
-    let long : m .taken + length ps ≤ 4_294_967_295 = omega (arith, n, c) in
-    let a = run-taken ps m log s (all-packets r u payload) long room in
-    rw (output-packets r u payload out h, c, ← e) (record {
-      accepted = a .0;
-      taken = a .1 ∙ ap (λ (k : ℕ). m .taken + k) n;
-      place = a .2;
-      log-is = run-written m ps log (a .0);
-      reads-back = run-reads-back ps m log s (all-packets r u payload) long room;
-    })
+    let q = output-packets r u payload out h in
+    let n = counted r u payload out h typed in
+    let e : run (m .taken) (stateOf m) (outputPackets r u payload out) ≡ eventsLogged u (length payload) m
+    = ap (run (m .taken) (stateOf m)) q ∙ permitted-events r u payload ok m f in
+    let all : All IsPacket (outputPackets r u payload out) = rw q (all-packets r u payload) in
+    let w : length (outputBytes r u payload out) % 188 ≡ 0 = omega (arith, output-size r u payload out h) in
+    run-logged m (outputBytes r u payload out) log _ _ s w all n e t l
 
 -- ---- 7. what was written, taken by the machine and gathered in a store, is the payload
 
@@ -258,3 +262,101 @@ pub unit-gathered : (r : Route) (u : Unit) (payload out : List ℕ) (s : State) 
 unit-gathered r u payload out s t h typed f good room =
     rw (output-packets r u payload out h, accepted-count r u payload out h)
     (permitted-gathered r u payload (accepted-permitted r u payload out h typed) s t f good room)
+
+-- ---- 8. demand 3 by calls of code alone
+
+module _ (r : Route) (u : Unit) (payload out : List ℕ) (m : Machine) (log : List ℕ) (t : Standing)
+    (h : Accepts r u payload out) (typed : Typed u)
+    (ready : Ready r (stateOf m)) (stands : Stands m log) (long : m .taken + countGiven r u payload out ≤ 4_294_967_295)
+    (wide : m .place + 8 * length (eventsLogged u (length payload) m) ≤ length log)
+    (good : Good t) (fits : length payload ≤ length (t .store)) where
+  abbrev n : ℕ
+  n = length payload
+
+  abbrev sound : Permitted r u n
+  sound = accepted-permitted r u payload out h typed
+
+  abbrev bytes : List ℕ
+  bytes = outputBytes r u payload out
+
+  abbrev packets : List (List ℕ)
+  packets = outputPackets r u payload out
+
+  -- the events with the first packet's index 0, of which this is the begin, and these are the continues
+  abbrev es : List Event
+  es = eventsWritten (m .phase) (countOf u n) (9 + dataOf u + n)
+
+  abbrev b : Event
+  b = endOf beginPacket 0 (min 184 (9 + dataOf u + n))
+
+  abbrev cs : List Event
+  cs = continuesOf 1 (countOf u n - 1) (9 + dataOf u + n - 184)
+
+  in-log : Logged m bytes log (countGiven r u payload out) (eventsLogged u n m)
+  in-log = logged r u payload out m log h typed ready stands long wide
+
+  added-are : eventsAdded m bytes log ≡ eventsLogged u n m
+  added-are =
+      let k : (reportOf m bytes log .machine .place - m .place) / 8 ≡ length (eventsLogged u n m) = omega (arith, in-log .place) in
+      ap (eventsRead (ranLog m bytes log) (m .place)) k ∙ events-read (ranLog m bytes log) (m .place) (eventsLogged u n m) (in-log .reads-back)
+
+  gathers : All Taken (answers packets t es)
+      × Open payload (length (t .store)) (gatherAll packets t es)
+      × (readAt packets (gatherAll packets t es) (lastOf b cs) ≡ payload)
+  gathers =
+      rw (output-packets r u payload out h, ← unit-run r u payload sound (stateOf m) ready)
+      (permitted-gathered r u payload sound (stateOf m) t ready good fits)
+
+  size-is : length bytes ≡ 188 * countOf u n
+  size-is = output-size r u payload out h
+
+  stands-after : afterCalls (m .taken) bytes t (eventsAdded m bytes log) ≡ gatherAll packets t es
+  stands-after =
+      ap (afterCalls (m .taken) bytes t) added-are ∙ calls-shifted (m .taken) bytes (countOf u n) size-is t es
+
+  last-packet : packetAt (m .taken) bytes (lastOf none (eventsAdded m bytes log)) ≡ packetOf packets (lastOf b cs)
+  unfolding eventsWritten
+  last-packet =
+      ap (λ (x : List Event). packetAt (m .taken) bytes (lastOf none x)) added-are
+      ∙ (ap (packetAt (m .taken) bytes) (last-past (m .taken) none (opened (m .phase) 0) b cs)
+      ∙ packet-at (m .taken) bytes (countOf u n) size-is (lastOf b cs))
+
+  is-packet : IsPacket (packetOf packets (lastOf b cs))
+  is-packet =
+      let q = output-packets r u payload out h in
+      let ps = packetsOf r u payload in
+      let l = long-enough r u payload in
+      let i : Inside ps (lastOf b cs)
+      = last-inside ps b cs (omega arith, part-inside (9 + dataOf u + n)) (continues-inside ps 1 (countOf u n - 1) (9 + dataOf u + n - 184) l) in
+      rw q (packet-there ps (lastOf b cs .index) (all-packets r u payload) (i .0))
+
+  calls : ReadBack r u payload (countGiven r u payload out) bytes m log t
+  calls =
+      let d = m .taken in
+      let k = countOf u n in
+      record {
+        ran = in-log .accepted;
+        packets = in-log .packets;
+        ended = in-log .ended;
+        entries = rw added-are (in-log .reads-back);
+        events = added-are;
+        segment-of = shiftedSegment d (segment b cs);
+        one-begin = ap segments added-are
+            ∙ (segments-shifted d es ∙ ap (map (shiftedSegment d)) (one-segment (m .phase) k (9 + dataOf u + n)));
+        header = subst (λ (xs : List ℕ). HeaderRead u n xs) (sym (bytes-shifted d bytes k size-is b)) (accepted-header r u payload out h typed);
+        packets-read = accepted r u payload out h typed;
+        gathered = subst (All Taken) (sym (ap (callNumbers d bytes t) added-are ∙ numbers-shifted d bytes k size-is t es)) (gathers .0);
+        held = ap₂ (λ (s : Standing) (p : List ℕ). readOf (s .gathering) p (s .store)) stands-after last-packet
+            ∙ sym (read-done _ _ _ (is-packet .0) (is-packet .1) (gathers .1 .good));
+        read-out = ap₂ (λ (s : Standing) (p : List ℕ). bytesOf (s .gathering) p (s .store)) stands-after last-packet ∙ gathers .2;
+      }
+
+-- WHAT A CALL OF `write` THAT ANSWERS 0 LEAVES IN ITS OUTPUT READS BACK, CALL BY CALL: by a machine with no last counter or the one just before
+-- that is not 14, with room in index and log, and a gathering state that is not 14, with room for the payload in its store
+pub read-back : (r : Route) (u : Unit) (payload out : List ℕ) (m : Machine) (log : List ℕ) (t : Standing)
+    → Accepts r u payload out → Typed u
+    → Ready r (stateOf m) → Stands m log → m .taken + countGiven r u payload out ≤ 4_294_967_295
+    → m .place + 8 * length (eventsLogged u (length payload) m) ≤ length log
+    → Good t → length payload ≤ length (t .store)
+    → ReadBack r u payload (countGiven r u payload out) (outputBytes r u payload out) m log t
+read-back = calls

@@ -16,7 +16,7 @@ use Rattle.machine.specs.declared.Last.{Last}
 use Rattle.machine.specs.declared.Last.the-variants.{Nothing, At}
 use Rattle.machine.specs.declared.Machine.{Machine}
 use Rattle.machine.specs.Events.{State, opened, run}
-use Rattle.machine.specs.Run.{packetsOf, Ran, shifted}
+use Rattle.machine.specs.Run.{packetsOf, shifted, reportOf, ranLog}
 use Rattle.writer.specs.declared.Route.{Route}
 use Rattle.writer.specs.declared.Unit.{Unit}
 use Rattle.writer.specs.Unit.{byteField, crcField, Field, absent, holds, dataOf, statedLength, countOf}
@@ -102,13 +102,16 @@ pub record Strict (r : Route) (u : Unit) (payload : List ℕ) (s : State) (ps : 
 
 -- ---- over the machine with its log
 
--- a run from a machine over a log took so many packets, and left these events, which read back
-pub record Logged (m : Machine) (log : List ℕ) (ran : Ran) (count : ℕ) (es : List Event) : Type 0 where
-  pub accepted : ran .answer .number ≡ done
-  pub taken : ran .answer .machine .taken ≡ m .taken + count
-  pub place : ran .answer .machine .place ≡ m .place + 8 * length es
-  pub log-is : ran .log ≡ sets log (m .place) (entriesBytes es)
-  pub reads-back : (k : ℕ) → k < length es → readEntry (ran .log) (m .place + 8 * k) ≡ answer done (eventValues (getD es k (event 0 0 0 0)))
+-- a run over bytes, from a machine with a log, took all their packets, so many, and left these events, which read back
+pub record Logged (m : Machine) (bytes log : List ℕ) (count : ℕ) (es : List Event) : Type 0 where
+  pub accepted : reportOf m bytes log .number ≡ done
+  pub packets : reportOf m bytes log .packets ≡ count
+  pub ended : reportOf m bytes log .ended ≡ done
+  pub taken : reportOf m bytes log .machine .taken ≡ m .taken + count
+  pub place : reportOf m bytes log .machine .place ≡ m .place + 8 * length es
+  pub log-is : ranLog m bytes log ≡ sets log (m .place) (entriesBytes es)
+  pub reads-back : (k : ℕ) → k < length es
+      → readEntry (ranLog m bytes log) (m .place + 8 * k) ≡ answer done (eventValues (getD es k (event 0 0 0 0)))
 
 -- the events of a unit, from the machine's next packet on
 abbrev pub eventsLogged : Unit → ℕ → Machine → List Event

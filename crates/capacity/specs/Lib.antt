@@ -1,3 +1,4 @@
 pub mod Reads
 pub mod Accepted
 pub mod Demand
+pub mod ReadBack
