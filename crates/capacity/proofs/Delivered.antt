@@ -15,8 +15,8 @@ use Rattle.machine.specs.Events.{State, opened, run}
 use Rattle.machine.specs.Step.{stateOf}
 use Rattle.machine.specs.Run.{shifted}
 use Rattle.machine.proofs.Theorems.{run-shift}
-use Rattle.gather.specs.Units.{Standing, gatherAll, answers, readAt, bytesAt, unitBytes, lastOf, Good, Taken, Open}
-use Rattle.gather.proofs.Theorems.{gather-append, taken-append, gathering-open}
+use Rattle.gather.specs.Units.{Standing, gatherAll, answers, readAt, bytesAt, bytesAtAll, unitBytes, lastOf, Good, Taken, Open}
+use Rattle.gather.proofs.Theorems.{own-payload, gather-append, taken-append, gathering-open}
 use Rattle.writer.specs.declared.Route.{Route}
 use Rattle.writer.specs.declared.Unit.{Unit}
 use Rattle.writer.specs.Unit.{dataOf, countOf}
@@ -92,7 +92,8 @@ module _ (r : Route) (u : Unit) (payload : List ℕ) (ok : Permitted r u (length
       let o = opened-taken ps all t good (omega arith) (s .phase) in
       let t₁ = gatherAll ps t es in
       let e : run 0 s ps ≡ es ++ (b ∷ cs) = unit-run r u payload ok s f in
-      let q : unitBytes ps b cs ≡ payload = unit-gives r u payload ok .payload-joined in
+      let q : unitBytes ps b cs ≡ payload
+      = ap (λ (x : List ℕ). x ++ bytesAtAll ps cs) (own-payload (bytesAt ps b)) ∙ unit-gives r u payload ok .payload-joined in
       let h = ap length q in
       let kinds = continues-kind 1 (k - 1) (m - 184) in
       let inside = continues-inside ps 1 (k - 1) (m - 184) long in

@@ -19,7 +19,8 @@ use Rattle.machine.specs.declared.Phase.the-variants.{Begin}
 use Rattle.machine.specs.declared.Last.the-variants.{Nothing}
 use Rattle.machine.specs.Events.{state, startFlag, headAccepted, continuous, begun, eventsOf, run}
 use Rattle.machine.specs.Step.{fresh}
-use Rattle.gather.specs.Belongs.{eventBytes, belongs, ownBytes}
+use Rattle.pes_header.specs.Payload.{headerPayload, payloadBytes}
+use Rattle.gather.specs.Belongs.{eventBytes}
 use Rattle.writer.specs.declared.Route.{Route}
 use Rattle.writer.specs.declared.Times.{Times}
 use Rattle.writer.specs.declared.Times.the-variants.{Untimed, Pts}
@@ -125,8 +126,8 @@ bare-fields =
       crc = refl;
     }
 
-bare-payload : ownBytes (0 ∷ 0 ∷ 1 ∷ 0xBC ∷ 0 ∷ 0 ∷ carries) ++ [] ≡ carries
-unfolding ownBytes belongs partOf parsedId headed idOf bit field
+bare-payload : payloadBytes (0 ∷ 0 ∷ 1 ∷ 0xBC ∷ 0 ∷ 0 ∷ carries) ++ [] ≡ carries
+unfolding payloadBytes headerPayload partOf parsedId headed idOf bit field
 bare-payload = refl
 
 pub bare-in-one : Delivers bare carries (state Begin Nothing) (packet ∷ [])

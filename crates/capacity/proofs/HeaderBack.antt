@@ -21,7 +21,7 @@ use Rattle.contents.specs.Contents.{dataLength, timesSize, escrAt, rateAt, tric
 use Rattle.contents.specs.Contents.{readPtsDts, escrBase, escrExtension, readEscr, rateOf, readEsRate, readCopyInfo, readCrc, readExtension}
 use Rattle.contents.specs.Trick.{readRawTrick}
 use Rattle.contents.proofs.Laws.{Accepted, sound, field-off, field-on}
-use Rattle.gather.specs.Belongs.{belongs, ownBytes}
+use Rattle.pes_header.specs.Payload.{headerPayload, payloadBytes}
 use Rattle.writer.specs.declared.Times.{Times}
 use Rattle.writer.specs.declared.Times.the-variants.{Untimed, Pts, Both}
 use Rattle.writer.specs.declared.Escr.{Escr}
@@ -349,8 +349,8 @@ module _ (u : Unit) (n : ℕ) (ok : UnitFits u n) (pay : List ℕ) where
       }
 
   -- and the payload after the header
-  pub payload-after : ownBytes ys ≡ pay
-  unfolding ownBytes belongs partOf
+  pub payload-after : payloadBytes ys ≡ pay
+  unfolding payloadBytes headerPayload partOf
   payload-after =
       let p : parsedId (idOf ys) ≡ true = ap parsedId id-back ∙ ok .id-parsed in
       let e : drop (6 + payloadAt c) ys ≡ pay

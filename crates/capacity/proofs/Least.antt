@@ -23,7 +23,8 @@ use Rattle.machine.specs.declared.Phase.{Phase}
 use Rattle.machine.specs.declared.Phase.the-variants.{Begin, Started, IgnoreRest}
 use Rattle.machine.specs.Events.{State, startFlag, headAccepted, held, continuous, broken, settled, opened, begun, continued, eventsOf}
 use Rattle.machine.specs.Events.{next, run}
-use Rattle.gather.specs.Belongs.{eventBytes, belongs, ownBytes}
+use Rattle.pes_header.specs.Payload.{headerPayload, payloadBytes}
+use Rattle.gather.specs.Belongs.{eventBytes}
 use Rattle.writer.specs.declared.Times.{Times}
 use Rattle.writer.specs.declared.Times.the-variants.{Untimed, Pts, Both}
 use Rattle.writer.specs.declared.Escr.{Escr}
@@ -236,8 +237,8 @@ module _ (u : Unit) (xs : List ℕ) (h : HasFields u xs) where
       )
 
   -- the first packet's part has the header's nine bytes, its data bytes and what it carries of the payload
-  header-room : parsedId (u .id) ≡ true → 9 + dataOf u + length (ownBytes xs) ≤ length xs
-  unfolding ownBytes belongs partOf
+  header-room : parsedId (u .id) ≡ true → 9 + dataOf u + length (payloadBytes xs) ≤ length xs
+  unfolding payloadBytes headerPayload partOf
   header-room p =
       let q : parsedId (idOf xs) ≡ true = ap parsedId (h .id) ∙ p in
       let d = headed-done xs (answer 0 []) (ap number-of (h .head)) in
@@ -256,7 +257,7 @@ least-segment ps u payload g p s h =
       header-room u xs (h .header) p,
       part-length ps (g .first) (s .0),
       parts-length ps (g .later) (s .1),
-      length-append (ownBytes xs) (bytesAtAll ps (g .later)),
+      length-append (payloadBytes xs) (bytesAtAll ps (g .later)),
       ap length (h .payload-joined),
     )
 

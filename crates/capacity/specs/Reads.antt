@@ -10,11 +10,11 @@ use Rattle.bits.specs.Numbers.{done, fieldNotPresent}
 use Rattle.pes.specs.Head.{readHead, idOf}
 use Rattle.contents.specs.Contents.{readContents, readFixed, readPtsDts, readEscr, readEsRate, readCopyInfo, readCrc}
 use Rattle.contents.specs.Trick.{readRawTrick}
+use Rattle.pes_header.specs.Payload.{payloadBytes}
 use Rattle.log.specs.declared.Event.{Event}
 use Rattle.log.specs.Entry.{beginPacket, continuePacket}
 use Rattle.machine.specs.Events.{State, run}
 use Rattle.machine.specs.Run.{IsPacket}
-use Rattle.gather.specs.Belongs.{ownBytes}
 use Rattle.gather.specs.Units.{bytesAt, bytesAtAll}
 use Rattle.writer.specs.declared.Times.{Times}
 use Rattle.writer.specs.declared.Times.the-variants.{Untimed, Pts, Both}
@@ -87,11 +87,11 @@ pub record HasFields (u : Unit) (xs : List ℕ) : Type 0 where
 
 -- ---- what is given
 
--- a segment gives a unit and its payload: the begin's header has its fields, and the header's payload joined with that of the
--- continues is the payload
+-- a segment gives a unit and its payload: the begin's header has its fields, and the payload that the header hands out, joined with the
+-- bytes of the continues, is the payload
 pub record Gives (ps : List (List ℕ)) (u : Unit) (payload : List ℕ) (g : Segment) : Type 0 where
   pub header : HasFields u (bytesAt ps (g .first))
-  pub payload-joined : ownBytes (bytesAt ps (g .first)) ++ bytesAtAll ps (g .later) ≡ payload
+  pub payload-joined : payloadBytes (bytesAt ps (g .first)) ++ bytesAtAll ps (g .later) ≡ payload
 
 -- THESE PACKETS, READ FROM THIS STATE, DELIVER THE UNIT: there is one begin, and its segment gives the unit with its payload
 pub record Delivers (u : Unit) (payload : List ℕ) (s : State) (ps : List (List ℕ)) : Type 0 where
