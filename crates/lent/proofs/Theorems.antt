@@ -2,13 +2,14 @@
 use mathlib.Core.Path.{_≡_, sym, ap, _∙_}
 use mathlib.Core.List.{List}
 use Prim.Native.Nat.{ℕ}
-use borrow.Author.Tests.{ne-eqb}
+use borrow.Author.Tests.{eq-eqb, ne-eqb}
 use Rattle.log.specs.declared.Event.{Event}
 use Rattle.machine.specs.declared.Machine.{Machine}
+use Rattle.machine.specs.declared.Report.{Report}
 use Rattle.machine.specs.declared.Stepped.{Stepped}
 use Rattle.machine.specs.declared.Verdict.{Verdict}
 use Rattle.machine.specs.Step.{outcome, numberOf, verdictNumber, stepOf, logOf}
-use Rattle.machine.specs.Run.{packetsOf, runOf}
+use Rattle.machine.specs.Run.{Reported, reported, runNumber, reportOf, ranLog}
 use Rattle.machine.proofs.Theorems.{one-step, one-run}
 use Rattle.gather.specs.declared.Gathering.{Gathering}
 use Rattle.gather.specs.declared.Gathered.{Gathered}
@@ -27,17 +28,11 @@ one-step-lent m p l a b m₁ m₂ l₁ l₂ h k =
     let e = one-step m p l (stepped a m₁) (stepped b m₂) (λ i. outcome (h .0 i) (h .1 i)) (λ i. outcome (k .0 i) (k .1 i)) in
     (ap (λ (s : Stepped). s .verdict) e, ap (λ (s : Stepped). s .machine) e, h .2 ∙ sym (k .2))
 
-pub one-run-lent : (m : Machine) (bs l : List ℕ) (a b : Verdict) (m₁ m₂ : Machine) (l₁ l₂ : List ℕ)
-    → (verdictNumber a ≡ runOf m (packetsOf bs) l .answer .number)
-    × (m₁ ≡ runOf m (packetsOf bs) l .answer .machine)
-    × (l₁ ≡ runOf m (packetsOf bs) l .log)
-    → (verdictNumber b ≡ runOf m (packetsOf bs) l .answer .number)
-    × (m₂ ≡ runOf m (packetsOf bs) l .answer .machine)
-    × (l₂ ≡ runOf m (packetsOf bs) l .log)
+pub one-run-lent : (m : Machine) (bs l : List ℕ) (a b : Report) (m₁ m₂ : Machine) (l₁ l₂ : List ℕ)
+    → (reported a ≡ reportOf m bs l) × (m₁ ≡ reportOf m bs l .machine) × (l₁ ≡ ranLog m bs l)
+    → (reported b ≡ reportOf m bs l) × (m₂ ≡ reportOf m bs l .machine) × (l₂ ≡ ranLog m bs l)
     → (a ≡ b) × (m₁ ≡ m₂) × (l₁ ≡ l₂)
-one-run-lent m bs l a b m₁ m₂ l₁ l₂ h k =
-    let e = one-run m (packetsOf bs) l (stepped a m₁) (stepped b m₂) (λ i. outcome (h .0 i) (h .1 i)) (λ i. outcome (k .0 i) (k .1 i)) in
-    (ap (λ (s : Stepped). s .verdict) e, ap (λ (s : Stepped). s .machine) e, h .2 ∙ sym (k .2))
+one-run-lent m bs l a b m₁ m₂ l₁ l₂ h k = (one-run m bs l a b (h .0) (k .0), h .1 ∙ sym (k .1), h .2 ∙ sym (k .2))
 
 abbrev gathered : StoreVerdict → Gathering → Gathered
 gathered v g = record { verdict = v; gathering = g }
@@ -60,6 +55,14 @@ pub step-refused : (m : Machine) (p l : List ℕ) (a : Verdict) (m₁ : Machine)
 unfolding stepOf logOf
 step-refused m p l a m₁ l₁ h z =
     let q = ne-eqb (numberOf m p l) 0 (λ e. z (h .0 ∙ e)) in
+    (h .1 ∙ simp q, h .2 ∙ simp q)
+
+pub run-refused : (m : Machine) (bs l : List ℕ) (r : Report) (m₁ : Machine) (l₁ : List ℕ)
+    → (reported r ≡ reportOf m bs l) × (m₁ ≡ reportOf m bs l .machine) × (l₁ ≡ ranLog m bs l)
+    → (verdictNumber (r .verdict) ≡ 0 → ⊥) → (m₁ ≡ m) × (l₁ ≡ l)
+unfolding reportOf ranLog
+run-refused m bs l r m₁ l₁ h z =
+    let q = ne-eqb (runNumber m bs l) 0 (λ e. z (ap (λ (t : Reported). t .number) (h .0) ∙ simp (eq-eqb (runNumber m bs l) 0 e))) in
     (h .1 ∙ simp q, h .2 ∙ simp q)
 
 pub gather-refused : (g : Gathering) (p : List ℕ) (e : Event) (s : List ℕ) (a : StoreVerdict) (g₁ : Gathering) (s₁ : List ℕ)

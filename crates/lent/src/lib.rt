@@ -2,11 +2,12 @@
 // returns.
 ghost use mathlib.Core.Path.{_≡_};
 ghost use Rattle.machine.specs.Step.{verdictNumber, stepOf, logOf};
-ghost use Rattle.machine.specs.Run.{packetsOf, runOf};
+ghost use Rattle.machine.specs.Run.{reported, reportOf, ranLog};
 ghost use Rattle.gather.specs.Gather.{verdictNumber as storeNumber, gatherOf, storeOf};
 use gather::Gathering;
 use log::Event;
 use machine::Machine;
+use machine::Report;
 use machine::Verdict;
 
 // One packet: the lent machine is advanced. A refusal leaves it.
@@ -20,15 +21,15 @@ pub fn step_lent(m: &mut Machine, packet: &[u8], log: &mut [u8]) -> Verdict
     s.verdict
 }
 
-// Every whole packet of the bytes, until one is refused: then the lent machine is as before that packet.
-pub fn run_lent(m: &mut Machine, bytes: &[u8], log: &mut [u8]) -> Verdict
-    ensures { λ r. ⌜ (verdictNumber r ≡ runOf (now (m .entry)) (packetsOf (now (bytes .entry))) (now (log .entry)) .answer .number)
-        × (now (m .exit) ≡ runOf (now (m .entry)) (packetsOf (now (bytes .entry))) (now (log .entry)) .answer .machine)
-        × (now (log .exit) ≡ runOf (now (m .entry)) (packetsOf (now (bytes .entry))) (now (log .entry)) .log) ⌝ }
+// Whole packets, until one is refused: the lent machine is then as before that packet. A refusal of the run itself leaves it.
+pub fn run_lent(m: &mut Machine, bytes: &[u8], log: &mut [u8]) -> Report
+    ensures { λ r. ⌜ (reported r ≡ reportOf (now (m .entry)) (now (bytes .entry)) (now (log .entry)))
+        × (now (m .exit) ≡ reportOf (now (m .entry)) (now (bytes .entry)) (now (log .entry)) .machine)
+        × (now (log .exit) ≡ ranLog (now (m .entry)) (now (bytes .entry)) (now (log .entry))) ⌝ }
 {
     let s = machine::run(*m, bytes, log);
     *m = s.machine;
-    s.verdict
+    s
 }
 
 // One event of a packet: the lent gathering state is moved on. A refusal leaves it, 20 apart.
