@@ -3,6 +3,7 @@ use pes::ContentsRead;
 use pes::HeadRead;
 use pes::LengthRead;
 use pes::StreamIdRead;
+use pes_header::PayloadRead;
 use pes_header::PesHeader;
 
 pub fn head(bytes: &[u8]) -> HeadRead {
@@ -25,8 +26,8 @@ pub fn contents_part(bytes: &[u8]) -> &[u8] {
     PesHeader::from_bytes(bytes).contents_part()
 }
 
-pub fn parsed_part(bytes: &[u8]) -> &[u8] {
-    PesHeader::from_bytes(bytes).parsed_part()
+pub fn payload_at(bytes: &[u8]) -> PayloadRead {
+    PesHeader::from_bytes(bytes).payload_at()
 }
 
 pub fn payload(bytes: &[u8]) -> &[u8] {

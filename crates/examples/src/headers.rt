@@ -1,4 +1,5 @@
-// Headers, read by the object `PesHeader`: a line for each, with a group for every reader and for two fields of the contents.
+// Headers, read by the object `PesHeader`: a line for each, with a group for every reader and, where the id carries parsed contents, for two
+// fields of these.
 use crate::header_object;
 use crate::show;
 use bits::wide;
@@ -11,6 +12,7 @@ use pes::HeadRead;
 use pes::LengthRead;
 use pes::StreamId;
 use pes::StreamIdRead;
+use pes_header::PayloadRead;
 
 // ---- the head
 
@@ -70,12 +72,28 @@ fn contents(r: ContentsRead) {
     show::comma();
 }
 
+fn payload_at(r: PayloadRead) {
+    match r {
+        PayloadRead::Done { place, length } => {
+            show::number(0);
+            show::two(place as u64, length as u64);
+        }
+        PayloadRead::ShortHeader => show::number(3),
+        PayloadRead::BadStartCode => show::number(4),
+        PayloadRead::ShortContents => show::number(5),
+        PayloadRead::BadCheckBits => show::number(6),
+        PayloadRead::HeaderPastBuffer => show::number(7),
+        PayloadRead::FieldsPastHeader => show::number(8),
+    }
+    show::comma();
+}
+
 fn part(bytes: &[u8]) {
     show::bytes(bytes);
     show::comma();
 }
 
-// ---- fields of the parsed contents: where there are none, they are read off no bytes, and are 5
+// ---- fields of the parsed contents
 
 fn refusal(r: Refusal) {
     match r {
@@ -120,7 +138,6 @@ fn escr(r: EscrRead) {
         EscrRead::FieldNotPresent => show::number(9),
         EscrRead::Refused(why) => refusal(why),
     }
-    show::end();
 }
 
 // ---- the headers
@@ -132,24 +149,39 @@ fn heads(bytes: &[u8]) {
     contents(header_object::contents(bytes));
 }
 
-// The last is the function, not the object's.
 fn parts(bytes: &[u8]) {
     part(header_object::contents_part(bytes));
-    part(header_object::parsed_part(bytes));
+    payload_at(header_object::payload_at(bytes));
     part(header_object::payload(bytes));
-    part(pes_header::payload(bytes));
 }
 
-fn fields(parsed: &[u8]) {
-    pts_dts(contents::pts_dts(parsed));
-    escr(contents::escr(parsed));
+fn parsed(contents: &[u8]) {
+    pts_dts(contents::pts_dts(contents));
+    escr(contents::escr(contents));
+}
+
+// The fields can be asked of parsed contents alone.
+fn fields(bytes: &[u8]) {
+    match header_object::contents(bytes) {
+        ContentsRead::Payload {
+            place: _,
+            length: _,
+        } => show::words(b" bare"),
+        ContentsRead::Parsed {
+            place: _,
+            length: _,
+        } => parsed(header_object::contents_part(bytes)),
+        ContentsRead::ShortHeader => show::number(3),
+        ContentsRead::BadStartCode => show::number(4),
+    }
+    show::end();
 }
 
 fn header(name: &[u8], bytes: &[u8]) {
     show::words(name);
     heads(bytes);
     parts(bytes);
-    fields(pes_header::parsed_part(bytes));
+    fields(bytes);
 }
 
 pub fn run() {
@@ -165,10 +197,24 @@ pub fn run() {
     );
     // an id that carries bare payload, of four bytes
     header(b"header bare", b"\x00\x00\x01\xBE\x00\x04\xA1\xA2\xA3\xA4");
-    header(b"header short", b"\x00\x00\x01\xE0\x00");
+    // 3 to 8, each with the fault of the next number too: five bytes that begin with no start code
+    header(b"header short", b"\x00\x00\x02\xE0\x00");
+    // no start code, and one byte of contents
+    header(b"header bad_start_code", b"\x00\x00\x02\xE0\x00\x00\x80");
+    // two bytes of contents, and no check bits
     header(
-        b"header bad_start_code",
-        b"\x00\x00\x02\xE0\x00\x00\x80\x00\x00",
+        b"header short_contents",
+        b"\x00\x00\x01\xE0\x00\x02\xC0\x00",
+    );
+    // no check bits, and header data of five bytes where none are
+    header(
+        b"header bad_check_bits",
+        b"\x00\x00\x01\xE0\x00\x03\xC0\x80\x05",
+    );
+    // header data of five bytes where four are, and PTS and DTS flagged
+    header(
+        b"header header_past_buffer",
+        b"\x00\x00\x01\xE0\x00\x07\x80\xC0\x05\x31\x00\x01\x00",
     );
     // PTS and DTS are flagged, ten bytes, and the header data are nine
     header(

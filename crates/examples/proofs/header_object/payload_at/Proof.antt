@@ -1,46 +1,46 @@
--- `parsed_part` of src/header_object.rt: the walk of proofs/Object.antt, at `PesHeader::parsed_part`.
+-- `payload_at` of src/header_object.rt: the walk of proofs/Object.antt, at `PesHeader::payload_at`.
 -- Assumes nothing.
 use mathlib.Core.Path.{_≡_}
 use mathlib.Core.List.{List}
 use Prim.Native.Nat.{ℕ}
-use mir.Syntax.{named, imm, w8, tyInt, tyRef}
 use contract.Lifetimes.{Lfts}
 use contract.Running.{givenOf, tables, tablesOf}
-use denote.Builtin.{u8}
+use denote.Enum.Laws as EL
 use denote.RattleType.{RattleType}
 use denote.Ref.{RefT, now}
-use denote.Slice.{ShrSlice, sliceTy, shr-slice-lawful}
 use denote.Triple.Spec.{tripleOf}
 use denote.Triple.Table.{entered, cited}
-use Rattle.pes_header.specs.Payload.{parsedBytes}
+use Rattle.pes_header.specs.Payload.{givenPayload, headerPayload}
+use Rattle.pes_header.proofs.PayloadRead as E
+use Rattle.pes_header.proofs.PayloadRead.Laws as E′
 use Rattle.pes_header.proofs.PesHeader.from_bytes.Symbol as new-def
 use Rattle.pes_header.proofs.PesHeader.from_bytes.Symbol.{name as #new}
 use Rattle.pes_header.proofs.PesHeader.from_bytes.Met as new-thm
-use Rattle.pes_header.proofs.PesHeader.parsed_part.Symbol as reader-def
-use Rattle.pes_header.proofs.PesHeader.parsed_part.Symbol.{name as #reader}
-use Rattle.pes_header.proofs.PesHeader.parsed_part.Met as reader-thm
+use Rattle.pes_header.proofs.PesHeader.payload_at.Symbol as reader-def
+use Rattle.pes_header.proofs.PesHeader.payload_at.Symbol.{name as #reader}
+use Rattle.pes_header.proofs.PesHeader.payload_at.Met as reader-thm
 use Rattle.examples.proofs.Object.{New, Reader, asked}
-use Rattle.examples.proofs.header_object.parsed_part.Key.{name as #self}
-use Rattle.examples.proofs.header_object.parsed_part as self
-use Rattle.examples.proofs.header_object.parsed_part.Statement as stated
-use Rattle.examples.proofs.header_object.parsed_part.Code as code
+use Rattle.examples.proofs.header_object.payload_at.Key.{name as #self}
+use Rattle.examples.proofs.header_object.payload_at as self
+use Rattle.examples.proofs.header_object.payload_at.Statement as stated
+use Rattle.examples.proofs.header_object.payload_at.Code as code
 
 abbrev F : Lfts 1 → RattleType
-F = λ κs. ShrSlice (named 0) (κs .0) u8
+F = λ κs. E.the-row
 
 -- what the reader says of its result
 abbrev Fact : (κs : Lfts 1) → RefT (List ℕ) → F κs .Denot → Type 0
-Fact κs x r = now r ≡ parsedBytes (now x)
+Fact κs x r = givenPayload r ≡ headerPayload (now x)
 
-pub parsed-part-spec : {M : Type 1} → stated.statement M
+pub payload-at-spec : {M : Type 1} → stated.statement M
 unfolding code.routine tablesOf
-parsed-part-spec 𝓤 H 𝓜 𝓖 𝓡 =
+payload-at-spec 𝓤 H 𝓜 𝓖 𝓡 =
     entered 𝓤 H (tripleOf 𝓤 H (𝓖 .A) self.signature (self.spec 𝓤 H (𝓖 .A) (𝓜 .mem) (𝓡 .run)))
     (tables 𝓤 H 𝓜 𝓡 code.env .C) (tables 𝓤 H 𝓜 𝓡 code.env .Λ) #self code.function (code.unfolded 𝓤 H 𝓜 𝓡)
-    (asked F Fact 𝓤 H (𝓖 .A) (𝓜 .mem) (𝓡 .run) (givenOf 𝓤 H 𝓜 𝓖) (sliceTy (tyRef (named 0) imm (tyInt w8)))
-    (λ κ r u is. shr-slice-lawful 𝓤 H (𝓖 .A) (givenOf 𝓤 H 𝓜 𝓖) (named 0) κ u8 .typed r _ is .0)
+    (asked F Fact 𝓤 H (𝓖 .A) (𝓜 .mem) (𝓡 .run) (givenOf 𝓤 H 𝓜 𝓖) E′.mir
+    (λ κ r u is. EL.lawful E.the-type E′.the-laws 𝓤 H (𝓖 .A) (givenOf 𝓤 H 𝓜 𝓖) tt .typed r _ is .0)
     #reader (tablesOf 𝓤 H 𝓜 (tables 𝓤 H 𝓜 𝓡 code.env))
     (cited 𝓤 H (New F Fact 𝓤 H (𝓖 .A) (𝓜 .mem) (𝓡 .run)) 𝓜 𝓡 code.env #new new-def.routine
     code.calls-pes-header·PesHeader·from-bytes (new-thm.met 𝓤 H 𝓜 𝓖 𝓡))
     (cited 𝓤 H (Reader F Fact 𝓤 H (𝓖 .A) (𝓜 .mem) (𝓡 .run)) 𝓜 𝓡 code.env #reader reader-def.routine
-    code.calls-pes-header·PesHeader·parsed-part (reader-thm.met 𝓤 H 𝓜 𝓖 𝓡)))
+    code.calls-pes-header·PesHeader·payload-at (reader-thm.met 𝓤 H 𝓜 𝓖 𝓡)))
