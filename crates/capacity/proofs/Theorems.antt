@@ -218,7 +218,8 @@ module _ (r : Route) (u : Unit) (payload : List ℕ) (ok : Permitted r u (length
   pub room : (out : List ℕ) → (writeOf r u payload out ≡ answer noRoom [])
       ↔ ((s : State) (ps : List (List ℕ)) → Ready r s → 188 * length ps ≤ length out → Delivers u payload s ps → ⊥)
   room out =
-      let e = room-for (λ s ps. Ready r s × Delivers u payload s ps) (λ s ps d. enough s ps (d .1)) fresh (omega arith, fresh-written .delivers) out in
+      let way : State → List (List ℕ) → Type 0 = λ s ps. Ready r s × Delivers u payload s ps in
+      let e = room-for way (λ s ps d. enough s ps (d .1)) fresh (omega arith, fresh-written .delivers) out in
       (λ a s ps f fits d. e .0 a s ps fits (f, d), λ a. e .1 (λ s ps fits d. a s ps (d .0) fits (d .1)))
 
   -- from any machine

@@ -37,7 +37,7 @@ pub record Typed (u : Unit) : Type 0 where
   pub trick-byte : atMost 255 (byteField (u .trick))
   pub crc-word : atMost 65535 (crcField (u .crc))
 
--- neither 17 nor 18
+-- neither 17 nor 18: every test of the field list and of the size list holds
 pub record Permitted (r : Route) (u : Unit) (n : ℕ) : Type 0 where
   pub route-good : allOf (routeTests r) ≡ true
   pub unit-good : allOf (unitTests u) ≡ true
@@ -53,7 +53,7 @@ Accepts r u payload out = writeOf r u payload out .number ≡ done
 abbrev pub countGiven : Route → Unit → List ℕ → List ℕ → ℕ
 countGiven r u payload out = getD (writeOf r u payload out .values) 0 0
 
--- so many packets of its output, as bytes and as `run` takes them
+-- so many packets of the output as it leaves it: their bytes, and cut as `run` cuts them
 abbrev pub outputBytes : Route → Unit → List ℕ → List ℕ → List ℕ
 outputBytes r u payload out = take (188 * countGiven r u payload out) (outputOf r u payload out)
 
