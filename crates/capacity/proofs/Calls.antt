@@ -16,7 +16,7 @@ use Rattle.gather.specs.Gather.{eventGood, added, next, numberOf, gatherOf, sto
 use Rattle.gather.specs.Units.{Standing, packetOf, answered, called, gatherAll, answers, bytesAt, lastOf, Inside}
 use Rattle.capacity.specs.Reads.{begins, continues, upToBegin, Segment, segment, segments}
 use Rattle.capacity.specs.ReadBack.{none, eventRead, eventsRead, packetAt, call, afterCall, callNumbers, afterCalls}
-use Rattle.capacity.proofs.Lower.{chunk-at}
+use Rattle.machine.proofs.Theorems.{chunk-at}
 
 -- ---- the events read out of a log are those that its entries hold
 

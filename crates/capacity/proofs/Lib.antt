@@ -8,7 +8,6 @@ pub mod Accepted
 pub mod Slices
 pub mod Gathered
 pub mod Delivered
-pub mod Lower
 pub mod Calls
 pub mod Theorems
 pub mod Examples

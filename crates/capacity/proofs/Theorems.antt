@@ -20,10 +20,12 @@ use Rattle.machine.specs.declared.Last.the-variants.{Nothing}
 use Rattle.machine.specs.declared.Machine.{Machine}
 use Rattle.machine.specs.Events.{State, state, opened, run}
 use Rattle.machine.specs.Step.{stateOf, Stands}
-use Rattle.machine.specs.Run.{reportOf, ranLog, IsPacket}
+use Rattle.machine.specs.Run.{reportOf, ranLog, IsPacket, Logged}
+use Rattle.machine.proofs.Theorems.{run-logged}
 use Rattle.gather.specs.Gather.{readOf, bytesOf}
 use Rattle.gather.specs.Units.{Standing, packetOf, gatherAll, answers, readAt, bytesAt, lastOf, Inside, Good, Taken, Open}
 use Rattle.gather.proofs.Laws.{read-done}
+use Rattle.gather.proofs.Theorems.{packet-there}
 use Rattle.writer.specs.declared.Route.{Route}
 use Rattle.writer.specs.declared.Unit.{Unit}
 use Rattle.writer.specs.Unit.{dataOf, countOf}
@@ -32,7 +34,7 @@ use Rattle.writer.specs.Writer.{allOf, routeTests, unitTests, sizeTests, writeO
 use Rattle.capacity.specs.Reads.{segment, segments, Delivers}
 use Rattle.capacity.specs.Accepted.{PacketsRead, HeaderRead}
 use Rattle.capacity.specs.Demand.{Typed, Permitted, Accepts, countGiven, outputBytes, outputPackets}
-use Rattle.capacity.specs.Demand.{Ready, endOf, continuesOf, eventsWritten, Strict, Logged, eventsLogged}
+use Rattle.capacity.specs.Demand.{Ready, endOf, continuesOf, eventsWritten, Strict, eventsLogged}
 use Rattle.capacity.specs.ReadBack.{none, eventsRead, eventsAdded, packetAt, callNumbers, afterCalls, ReadBack}
 use Rattle.capacity.proofs.Permits.{unit-fits}
 use Rattle.capacity.proofs.Carried.{one-segment}
@@ -40,7 +42,6 @@ use Rattle.capacity.proofs.Written.{written-count, all-packets, unit-ru
 use Rattle.capacity.proofs.Gathered.{part-inside, continues-inside, long-enough}
 use Rattle.capacity.proofs.Calls.{events-read, packet-at, bytes-shifted, numbers-shifted, calls-shifted, shiftedSegment, segments-shifted}
 use Rattle.capacity.proofs.Calls.{last-past, last-inside}
-use Rattle.capacity.proofs.Lower.{packet-there, run-logged}
 use Rattle.capacity.proofs.Slices.{flat-length, packets-flat}
 use Rattle.capacity.proofs.Delivered.{permitted-written, permitted-events, permitted-accepted, permitted-header}
 use Rattle.capacity.proofs.Delivered.{permitted-gathered}

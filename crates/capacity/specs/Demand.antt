@@ -2,21 +2,20 @@
 use mathlib.Core.Path.{_≡_}
 use mathlib.Core.Bool.{true}
 use mathlib.Core.List.{List, [], _∷_, _++_, map}
-use Prim.Native.Nat.{ℕ, zero, suc, _+_, _-_, _*_, _%_, _≤_, _<_, min}
+use Prim.Native.Nat.{ℕ, zero, suc, _+_, _-_, _*_, _%_, _≤_, min}
 use lib.ListN.{length, getD, take}
-use lib.Seq.{sets}
-use Rattle.bits.specs.Answer.{answer, All}
+use Rattle.bits.specs.Answer.{All}
 use Rattle.bits.specs.Numbers.{done}
 use Rattle.packet.specs.Packet.{pidField, counterField}
 use Rattle.pes.specs.Head.{packetLength}
 use Rattle.log.specs.declared.Event.{Event}
-use Rattle.log.specs.Entry.{event, eventValues, entriesBytes, readEntry, beginPacket, continuePacket}
+use Rattle.log.specs.Entry.{event, beginPacket, continuePacket}
 use Rattle.machine.specs.declared.Phase.{Phase}
 use Rattle.machine.specs.declared.Last.{Last}
 use Rattle.machine.specs.declared.Last.the-variants.{Nothing, At}
 use Rattle.machine.specs.declared.Machine.{Machine}
 use Rattle.machine.specs.Events.{State, opened, run}
-use Rattle.machine.specs.Run.{packetsOf, shifted, reportOf, ranLog}
+use Rattle.machine.specs.Run.{packetsOf, shifted}
 use Rattle.writer.specs.declared.Route.{Route}
 use Rattle.writer.specs.declared.Unit.{Unit}
 use Rattle.writer.specs.Unit.{byteField, crcField, Field, absent, holds, dataOf, statedLength, countOf}
@@ -101,17 +100,6 @@ pub record Strict (r : Route) (u : Unit) (payload : List ℕ) (s : State) (ps : 
   pub stated : packetLength (bytesAt ps (delivers .segment-of .first)) ≡ statedLength u (length payload)
 
 -- ---- over the machine with its log
-
--- a run over bytes, from a machine with a log, took all their packets, so many, and left these events, which read back
-pub record Logged (m : Machine) (bytes log : List ℕ) (count : ℕ) (es : List Event) : Type 0 where
-  pub accepted : reportOf m bytes log .number ≡ done
-  pub packets : reportOf m bytes log .packets ≡ count
-  pub ended : reportOf m bytes log .ended ≡ done
-  pub taken : reportOf m bytes log .machine .taken ≡ m .taken + count
-  pub place : reportOf m bytes log .machine .place ≡ m .place + 8 * length es
-  pub log-is : ranLog m bytes log ≡ sets log (m .place) (entriesBytes es)
-  pub reads-back : (k : ℕ) → k < length es
-      → readEntry (ranLog m bytes log) (m .place + 8 * k) ≡ answer done (eventValues (getD es k (event 0 0 0 0)))
 
 -- the events of a unit, from the machine's next packet on
 abbrev pub eventsLogged : Unit → ℕ → Machine → List Event

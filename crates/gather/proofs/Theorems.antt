@@ -148,7 +148,7 @@ module _ (xs : List ℕ) where
 -- ---- the calls over events: what a call with each kind does
 
 -- an event whose packet is there and whose part lies in it is refused for its state alone
-packet-there : (ps : List (List ℕ)) (i : ℕ) → All IsPacket ps → i < length ps → IsPacket (getD ps i [])
+pub packet-there : (ps : List (List ℕ)) (i : ℕ) → All IsPacket ps → i < length ps → IsPacket (getD ps i [])
 packet-there [] i a h = absurd (omega arith)
 packet-there (p ∷ ps) zero a h = a .0
 packet-there (p ∷ ps) (suc i) a h = packet-there ps i (a .1) (omega arith)
