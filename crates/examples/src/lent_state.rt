@@ -4,6 +4,7 @@ use gather::Gathered;
 use gather::Gathering;
 use log::Event;
 use machine::Machine;
+use machine::Report;
 use machine::Stepped;
 
 pub fn step(m: Machine, packet: &[u8], log: &mut [u8]) -> Stepped {
@@ -15,11 +16,17 @@ pub fn step(m: Machine, packet: &[u8], log: &mut [u8]) -> Stepped {
     }
 }
 
-pub fn run(m: Machine, bytes: &[u8], log: &mut [u8]) -> Stepped {
+// What a run tells, and the machine that was lent to it.
+pub struct Ran {
+    pub report: Report,
+    pub machine: Machine,
+}
+
+pub fn run(m: Machine, bytes: &[u8], log: &mut [u8]) -> Ran {
     let mut own = m;
-    let verdict = lent::run_lent(&mut own, bytes, log);
-    Stepped {
-        verdict,
+    let report = lent::run_lent(&mut own, bytes, log);
+    Ran {
+        report,
         machine: own,
     }
 }

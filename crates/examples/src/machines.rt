@@ -1,14 +1,15 @@
-// The machine over a lent state: a line for each call, with its number and the fields of the state after it, then each entry of the log.
+// The machine over a lent state: a line for each call, with its answer and the fields of the state after it, then each entry of the log.
 use crate::lent_state;
 use crate::packets;
 use crate::show;
+use bits::copy_at;
+use bits::part;
 use bits::wide;
 use log::EntryRead;
 use log::Event;
 use machine::Last;
 use machine::Machine;
 use machine::Phase;
-use machine::Stepped;
 use machine::Verdict;
 
 // Room for one entry more than the example has.
@@ -63,13 +64,9 @@ fn entries(log: &[u8; LOG]) {
     }
 }
 
-fn line(call: &[u8], s: Stepped, log: &[u8; LOG]) {
-    let v = s.verdict;
-    let m = s.machine;
+fn state(m: Machine, log: &[u8; LOG]) {
     let p = m.phase;
     let l = m.last;
-    show::words(call);
-    number(v);
     phase(p);
     last(l);
     show::two(m.taken as u64, m.place as u64);
@@ -81,8 +78,12 @@ fn line(call: &[u8], s: Stepped, log: &[u8; LOG]) {
 
 fn step(call: &[u8], m: Machine, packet: &[u8], log: &mut [u8; LOG]) -> Machine {
     let s = lent_state::step(m, packet, log);
-    line(call, s, log);
-    s.machine
+    let v = s.verdict;
+    let after = s.machine;
+    show::words(call);
+    number(v);
+    state(after, log);
+    after
 }
 
 // The four packets, one a call.
@@ -98,21 +99,46 @@ fn steps(call: &[u8], m: Machine, stream: &[u8]) {
 fn all(call: &[u8], m: Machine, bytes: &[u8]) {
     let mut log = [0u8; LOG];
     let s = lent_state::run(m, bytes, &mut log);
-    line(call, s, &log);
+    let r = s.report;
+    let v = r.verdict;
+    let ended = r.ended;
+    show::words(call);
+    number(v);
+    show::number(r.packets as u64);
+    number(ended);
+    state(s.machine, &log);
 }
 
-// A state that cannot be: no packet has such a counter.
-fn counter_16() -> Machine {
+// A packet that is taken, and after it one with no sync byte, which ends the run and is no refusal of it.
+fn cut_short(stream: &[u8]) {
+    let mut bytes = [0u8; 376];
+    copy_at(packets::packet(stream, 0), &mut bytes, 0);
+    all(b"run_lent no_sync", Machine::new(), &bytes);
+}
+
+// A state that cannot be: no packet has such a counter, and no entry begins at a place of 3.
+fn counter_16(place: usize) -> Machine {
     Machine {
         phase: Phase::Started,
         last: Last::At(16),
         taken: 7,
-        place: 8,
+        place,
     }
 }
 
 pub fn run(stream: &[u8]) {
     steps(b"step_lent", Machine::new(), stream);
-    steps(b"step_lent counter_16", counter_16(), stream);
+    steps(b"step_lent counter_16", counter_16(8), stream);
     all(b"run_lent", Machine::new(), packets::three(stream));
+    cut_short(stream);
+    all(
+        b"run_lent counter_16 187_bytes",
+        counter_16(3),
+        part(stream, 0, 187),
+    );
+    all(
+        b"run_lent counter_16 no_bytes",
+        counter_16(3),
+        part(stream, 0, 0),
+    );
 }
