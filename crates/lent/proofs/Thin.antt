@@ -1,6 +1,7 @@
 -- The walk of `step_lent` and `run_lent`, once: `pub fn f(m: &mut Machine, bytes: &[u8], log: &mut [u8]) -> R`, over the struct that the
 -- callee returns, which of its fields is the machine, what of it is returned, and what is said of it.
 --     Piece      a part of a struct: the struct itself or a field
+--     Form       a function of the form
 --     the-fn     the MIR of such a function: each one's `code.function` computes to it
 --     thin       from the callee's theorem at its key, that the function meets the facts that follow from the callee's
 -- The outer borrow is opened, the machine is copied whole and passed to the callee with the bytes and the log, the machine that it returned
