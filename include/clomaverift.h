@@ -270,30 +270,29 @@ uint32_t cmv_timestamp_likely_wrapped_since(uint64_t val, uint64_t since, uint64
 /* Timestamp::MAX and Timestamp::TIMEBASE */
 uint32_t cmv_timestamp_constants(uint64_t *max, uint64_t *timebase);
 
-/* ---- The gathering store. The host keeps a state as three numbers and lends them: whether a unit is open, 0 or 1; how many bytes it
+/* ---- The gathering store. The host keeps a state as a row of numbers and lends it: whether a unit is open, 0 or 1; how many bytes it
    has; and where they lie, a place of the packet or 255 for the store. */
 
-/* gather::gather over a lent state, of an event by its kind, place and length. On 0 and on 20 the numbers of the next state are written,
-   on any other refusal none. */
-uint32_t cmv_gather(uint8_t *opened, size_t *count, uint8_t *lies, const uint8_t *packet, size_t packet_len, uint8_t kind, uint8_t place,
-    uint8_t length, uint8_t *store, size_t store_len);
+/* gather::gather over a lent row, of an event by its kind, place and length. On 0 and on 20 the row of the next state is written, on any
+   other refusal nothing is. state: 3 numbers */
+uint32_t cmv_gather(uint64_t state[3], const uint8_t *packet, size_t packet_len, uint8_t kind, uint8_t place, uint8_t length,
+    uint8_t *store, size_t store_len);
 
 /* The bytes so far (gather::held and gather::bytes): of which slice they are a part, 0 the packet and 1 the store, and the place and
-   length of the part. */
-uint32_t cmv_gather_bytes(uint8_t opened, size_t count, uint8_t lies, const uint8_t *packet, size_t packet_len, const uint8_t *store,
-    size_t store_len, uint64_t *slice, uint64_t *place, uint64_t *length);
+   length of the part. state: 3 numbers */
+uint32_t cmv_gather_bytes(const uint64_t state[3], const uint8_t *packet, size_t packet_len, const uint8_t *store, size_t store_len,
+    uint64_t *slice, uint64_t *place, uint64_t *length);
 
-/* ---- The event machine and its log. The host keeps a state as four numbers and lends them: phase 0, 1, 2 for Begin, Started and
+/* ---- The event machine and its log. The host keeps a state as a row of numbers and lends it: phase 0, 1, 2 for Begin, Started and
    IgnoreRest; the last counter or 255 for none; the packets taken so far; and the next free place of the log. */
 
-/* machine::step over a lent state */
-uint32_t cmv_machine_step(uint8_t *phase, uint8_t *last, uint32_t *taken, size_t *place, const uint8_t *packet, size_t packet_len,
-    uint8_t *log, size_t log_len);
+/* machine::step over a lent row. state: 4 numbers */
+uint32_t cmv_machine_step(uint64_t state[4], const uint8_t *packet, size_t packet_len, uint8_t *log, size_t log_len);
 
-/* machine::run over a lent state: steps over the whole packets of the bytes until one is refused. The state is that after the packets
-   taken, also where the word is a refusal: the packet that `taken` counts next is the refused one. */
-uint32_t cmv_machine_run(uint8_t *phase, uint8_t *last, uint32_t *taken, size_t *place, const uint8_t *bytes, size_t bytes_len,
-    uint8_t *log, size_t log_len);
+/* machine::run over a lent row: how many packets were taken, and the number that the next one was refused with, 0 where all were taken.
+   state: 4 numbers */
+uint32_t cmv_machine_run(uint64_t state[4], const uint8_t *bytes, size_t bytes_len, uint8_t *log, size_t log_len, uint64_t *taken,
+    uint64_t *ended);
 
 /* log::entry_at */
 uint32_t cmv_log_entry_at(const uint8_t *log, size_t log_len, size_t at, uint64_t *kind, uint64_t *index, uint64_t *place,

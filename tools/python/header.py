@@ -2,8 +2,8 @@
 to be told of every exported function: include/clomaverift.h for C and C++, and rust/clomaverift/src/declarations.rs for all Rust of
 the repository. With --check nothing is written, and a file that differs from what would be made is named; the exit status is 1 then.
 
-A `&[u8]` of the sources is two C arguments, pointer and length; a `&mut` number is a pointer, and so is a `&mut` row of numbers; a
-number is itself.
+A `&[u8]` of the sources is two C arguments, pointer and length; a `&mut` number is a pointer, and so is a lent row of numbers, `&` or
+`&mut`; a number is itself.
 """
 import pathlib
 import re
@@ -17,7 +17,7 @@ WIDTH = 140  # of a line of the header
 RUST_WIDTH = 120  # of a line of Rust, as rust/rustfmt.toml has it
 
 SLICE = re.compile(r"&(mut )?\[u8\]")
-ROW = re.compile(r"&mut \[(\w+); (\d+)\]")
+ROW = re.compile(r"&(?:mut )?\[(\w+); (\d+)\]")
 C_TYPES = {"u8": "uint8_t", "u16": "uint16_t", "u32": "uint32_t", "u64": "uint64_t", "usize": "size_t"}
 
 ENTRY = re.compile(r'((?://[^\n]*\n)*)#\[no_mangle\]\npub extern "C" fn (\w+)\(([^)]*)\) -> (\w+)\n')
@@ -61,13 +61,27 @@ def entries(text, path):
     return found
 
 
+def first_comment(text):
+    return comment_text(re.match(r"(?://[^\n]*\n)*", text)[0])
+
+
+def with_module_named(said):
+    """A comment that ends by naming a module of another crate, `lends it (machine::row).`, goes on instead with what that module's first
+    comment says after its colon: a caller in another language does not look there."""
+    named = re.fullmatch(r"(.*) \((\w+)::(\w+)\)\.", said)
+    if not named:
+        return said
+    text = first_comment((TOP / "crates" / named[2] / "src" / f"{named[3]}.rt").read_text())
+    return f"{named[1]}: {text.split(': ', 1)[1]}"
+
+
 def modules(crate):
     """For each source file of a crate that exports something: what its first comment says, and its entries."""
     for path in sorted((TOP / "crates" / crate / "src").glob("*.rt")):
         text = path.read_text()
         found = entries(text, path)
         if found:
-            yield comment_text(re.match(r"(?://[^\n]*\n)*", text)[0]), found
+            yield with_module_named(first_comment(text)), found
 
 
 def listed(words):
@@ -126,7 +140,7 @@ def c_parameter(one):
     if one.slice:
         return [f"{'' if one.written else 'const '}{number} *{one.name}", f"size_t {one.name}_len"]
     if one.count:
-        return [f"{number} {one.name}[{one.count}]"]
+        return [f"{'' if one.written else 'const '}{number} {one.name}[{one.count}]"]
     return [f"{number} {'*' if one.written else ''}{one.name}"]
 
 
@@ -227,7 +241,7 @@ RUST_OPENING = """\
 //! The functions of the library, a block for each of its archives. Made by tools/header from the sources of the crates that the archives
 //! are built from: not to be edited. What each function does and asks, include/clomaverift.h says.
 //!
-//! A `&[u8]` of the sources is two arguments, pointer and length; a `&mut` number is a pointer, and so is a `&mut` row of numbers.
+//! A `&[u8]` of the sources is two arguments, pointer and length; a `&mut` number is a pointer, and so is a lent row of numbers.
 
 // A program declares them all, and calls some.
 #![allow(dead_code)]
@@ -239,7 +253,8 @@ def rust_parameter(one):
     if one.slice:
         return [f"{one.name}: *{'mut' if one.written else 'const'} {one.number}", f"{one.name}_len: usize"]
     number = f"[{one.number}; {one.count}]" if one.count else one.number
-    return [f"{one.name}: {'*mut ' if one.written else ''}{number}"]
+    pointer = "*mut " if one.written else "*const " if one.count else ""
+    return [f"{one.name}: {pointer}{number}"]
 
 
 def rust_declaration(entry):

@@ -1,7 +1,7 @@
 //! The functions of the library, a block for each of its archives. Made by tools/header from the sources of the crates that the archives
 //! are built from: not to be edited. What each function does and asks, include/clomaverift.h says.
 //!
-//! A `&[u8]` of the sources is two arguments, pointer and length; a `&mut` number is a pointer, and so is a `&mut` row of numbers.
+//! A `&[u8]` of the sources is two arguments, pointer and length; a `&mut` number is a pointer, and so is a lent row of numbers.
 
 // A program declares them all, and calls some.
 #![allow(dead_code)]
@@ -121,9 +121,7 @@ extern "C" {
 #[rustfmt::skip]
 extern "C" {
     pub fn cmv_gather(
-        opened: *mut u8,
-        count: *mut usize,
-        lies: *mut u8,
+        state: *mut [u64; 3],
         packet: *const u8,
         packet_len: usize,
         kind: u8,
@@ -133,9 +131,7 @@ extern "C" {
         store_len: usize,
     ) -> u32;
     pub fn cmv_gather_bytes(
-        opened: u8,
-        count: usize,
-        lies: u8,
+        state: *const [u64; 3],
         packet: *const u8,
         packet_len: usize,
         store: *const u8,
@@ -145,24 +141,20 @@ extern "C" {
         length: *mut u64,
     ) -> u32;
     pub fn cmv_machine_step(
-        phase: *mut u8,
-        last: *mut u8,
-        taken: *mut u32,
-        place: *mut usize,
+        state: *mut [u64; 4],
         packet: *const u8,
         packet_len: usize,
         log: *mut u8,
         log_len: usize,
     ) -> u32;
     pub fn cmv_machine_run(
-        phase: *mut u8,
-        last: *mut u8,
-        taken: *mut u32,
-        place: *mut usize,
+        state: *mut [u64; 4],
         bytes: *const u8,
         bytes_len: usize,
         log: *mut u8,
         log_len: usize,
+        taken: *mut u64,
+        ended: *mut u64,
     ) -> u32;
     pub fn cmv_log_entry_at(
         log: *const u8,
