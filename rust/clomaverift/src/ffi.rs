@@ -4,8 +4,6 @@
 
 use crate::declarations::*;
 use crate::error::Error;
-use crate::gather::Gathering;
-use crate::machine::Machine;
 use crate::writer::{Numbers, Unit};
 
 /// The out numbers, or the refusal that the word says.
@@ -203,21 +201,20 @@ pub mod constants {
 
 // ---- The event machine and its log.
 
-pub fn machine_step(machine: &mut Machine, packet: &[u8], log: &mut [u8]) -> Result<(), Error> {
-    let Machine { phase, last, taken, place } = machine;
-    // SAFETY: the pointers and the lengths are those of live numbers and slices, and what is written shares no byte with another.
-    let word = unsafe {
-        cmv_machine_step(phase, last, taken, place, packet.as_ptr(), packet.len(), log.as_mut_ptr(), log.len())
-    };
+pub fn machine_step(state: &mut [u64; 4], packet: &[u8], log: &mut [u8]) -> Result<(), Error> {
+    // SAFETY: the pointers and the lengths are those of a live row and live slices, and what is written shares no byte with another.
+    let word = unsafe { cmv_machine_step(state, packet.as_ptr(), packet.len(), log.as_mut_ptr(), log.len()) };
     told(word, ())
 }
 
-pub fn machine_run(machine: &mut Machine, bytes: &[u8], log: &mut [u8]) -> Result<(), Error> {
-    let Machine { phase, last, taken, place } = machine;
-    // SAFETY: as for `machine_step`.
-    let word =
-        unsafe { cmv_machine_run(phase, last, taken, place, bytes.as_ptr(), bytes.len(), log.as_mut_ptr(), log.len()) };
-    told(word, ())
+/// How many packets were taken, and the word of the refusal of the next one.
+pub fn machine_run(state: &mut [u64; 4], bytes: &[u8], log: &mut [u8]) -> Result<[u64; 2], Error> {
+    let [mut taken, mut ended] = [0; 2];
+    // SAFETY: as for `machine_step`, and the out numbers are live.
+    let word = unsafe {
+        cmv_machine_run(state, bytes.as_ptr(), bytes.len(), log.as_mut_ptr(), log.len(), &mut taken, &mut ended)
+    };
+    told(word, [taken, ended])
 }
 
 /// Kind, packet index, place and length.
@@ -230,45 +227,23 @@ pub fn log_entry_at(log: &[u8], at: usize) -> Result<[u64; 4], Error> {
 
 // ---- The gathering store.
 
-pub fn gather(gathering: &mut Gathering, packet: &[u8], event: [u8; 3], store: &mut [u8]) -> Result<(), Error> {
-    let Gathering { opened, count, lies } = gathering;
+pub fn gather(state: &mut [u64; 3], packet: &[u8], event: [u8; 3], store: &mut [u8]) -> Result<(), Error> {
     let [kind, place, length] = event;
-    // SAFETY: the pointers and the lengths are those of live numbers and slices, and what is written shares no byte with another.
+    // SAFETY: the pointers and the lengths are those of a live row and live slices, and what is written shares no byte with another.
     let word = unsafe {
-        cmv_gather(
-            opened,
-            count,
-            lies,
-            packet.as_ptr(),
-            packet.len(),
-            kind,
-            place,
-            length,
-            store.as_mut_ptr(),
-            store.len(),
-        )
+        cmv_gather(state, packet.as_ptr(), packet.len(), kind, place, length, store.as_mut_ptr(), store.len())
     };
     told(word, ())
 }
 
 /// The slice, 0 the packet and 1 the store, and the place and length of a part of it.
-pub fn gather_bytes(gathering: Gathering, packet: &[u8], store: &[u8]) -> Result<[u64; 3], Error> {
-    let Gathering { opened, count, lies } = gathering;
+pub fn gather_bytes(state: &[u64; 3], packet: &[u8], store: &[u8]) -> Result<[u64; 3], Error> {
     let [mut slice, mut place, mut length] = [0; 3];
-    // SAFETY: the pointers and the lengths are those of live slices, and the out numbers are live.
+    // SAFETY: the pointers and the lengths are those of a live row and live slices, and the out numbers are live.
     let word = unsafe {
-        cmv_gather_bytes(
-            opened,
-            count,
-            lies,
-            packet.as_ptr(),
-            packet.len(),
-            store.as_ptr(),
-            store.len(),
-            &mut slice,
-            &mut place,
-            &mut length,
-        )
+        let (packet, packet_len) = (packet.as_ptr(), packet.len());
+        let (store, store_len) = (store.as_ptr(), store.len());
+        cmv_gather_bytes(state, packet, packet_len, store, store_len, &mut slice, &mut place, &mut length)
     };
     told(word, [slice, place, length])
 }

@@ -3,9 +3,10 @@
 use crate::error::Error;
 use crate::ffi;
 use crate::machine::Event;
+use std::fmt;
 
 /// The number that says that the bytes lie in the store.
-const STORE: u8 = 255;
+const STORE: u64 = 255;
 
 /// What is known of the unit that is gathered from a stream's events. Its bytes stand in a store of the caller's.
 ///
@@ -25,11 +26,10 @@ const STORE: u8 = 255;
 /// assert_eq!((bytes.len(), &bytes[..2]), (175, &[7, 8][..]));
 /// # Ok::<(), clomaverift::Error>(())
 /// ```
-#[derive(Clone, Copy, Debug, PartialEq, Eq)]
+#[derive(Clone, Copy, PartialEq, Eq)]
 pub struct Gathering {
-    pub(crate) opened: u8,
-    pub(crate) count: usize,
-    pub(crate) lies: u8,
+    /// Whether a unit is open, how many bytes it has, where they lie: the row of numbers that the library is lent.
+    row: [u64; 3],
 }
 
 impl Default for Gathering {
@@ -41,7 +41,7 @@ impl Default for Gathering {
 impl Gathering {
     /// Before the first event: no unit, no bytes.
     pub fn new() -> Gathering {
-        Gathering { opened: 0, count: 0, lies: STORE }
+        Gathering { row: [0, 0, STORE] }
     }
 
     /// Takes an event of a packet. A begin opens a unit anew with the payload after the header, a continue adds to an open unit, an end
@@ -50,24 +50,33 @@ impl Gathering {
     /// The order of refusals: [`Error::WrongLength`], [`Error::NoSync`], [`Error::OutOfRange`], [`Error::StoreFull`]. On the last the
     /// unit is closed and has no bytes; on the others nothing changes.
     pub fn gather(&mut self, packet: &[u8], event: Event, store: &mut [u8]) -> Result<(), Error> {
-        ffi::gather(self, packet, [event.kind as u8, event.place, event.length], store)
+        ffi::gather(&mut self.row, packet, [event.kind as u8, event.place, event.length], store)
     }
 
     /// The bytes so far: a part of the packet of a begin, otherwise of the store. The packet is that of the last event.
     pub fn bytes<'buf>(&self, packet: &'buf [u8], store: &'buf [u8]) -> Result<&'buf [u8], Error> {
-        let [slice, place, length] = ffi::gather_bytes(*self, packet, store)?;
+        let [slice, place, length] = ffi::gather_bytes(&self.row, packet, store)?;
         let lent = if slice == 0 { packet } else { store };
         Ok(&lent[place as usize..][..length as usize])
     }
 
     /// Whether a unit is open.
     pub fn is_open(&self) -> bool {
-        self.opened == 1
+        self.row[0] == 1
     }
 
     /// How many bytes it has, or had when it was closed.
     pub fn count(&self) -> usize {
-        self.count
+        self.row[1] as usize
+    }
+}
+
+impl fmt::Debug for Gathering {
+    fn fmt(&self, f: &mut fmt::Formatter<'_>) -> fmt::Result {
+        let place = Some(self.row[2]).filter(|place| *place != STORE);
+        let mut parts = f.debug_struct("Gathering");
+        parts.field("is_open", &self.is_open()).field("count", &self.count());
+        parts.field("place_in_packet", &place).finish()
     }
 }
 

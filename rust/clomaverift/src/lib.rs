@@ -63,7 +63,7 @@ mod writer;
 pub use demux::{Demux, Found, FoundUnit};
 pub use error::Error;
 pub use gather::Gathering;
-pub use machine::{Event, EventKind, Events, Machine, Phase};
+pub use machine::{Event, EventKind, Events, Machine, Phase, Ran};
 pub use packet::{
     AdaptationControl, AdaptationField, AdaptationFieldExtension, ClockRef, ContinuityCounter, Packet, PacketFields,
     Pid, SeamlessSplice, TransportScramblingControl,

@@ -3,9 +3,10 @@
 use crate::error::Error;
 use crate::ffi;
 use crate::packet::ContinuityCounter;
+use std::fmt;
 
 /// The number of no last counter.
-const NO_COUNTER: u8 = 255;
+const NO_COUNTER: u64 = 255;
 
 /// The bytes of a log entry.
 const ENTRY: usize = 8;
@@ -40,12 +41,10 @@ pub enum Phase {
 /// assert_eq!(kinds, [EventKind::StartStream, EventKind::BeginPacket, EventKind::ContinuityError]);
 /// # Ok::<(), clomaverift::Error>(())
 /// ```
-#[derive(Clone, Copy, Debug, PartialEq, Eq)]
+#[derive(Clone, Copy, PartialEq, Eq)]
 pub struct Machine {
-    pub(crate) phase: u8,
-    pub(crate) last: u8,
-    pub(crate) taken: u32,
-    pub(crate) place: usize,
+    /// Phase, last counter, packets taken, place in the log: the row of numbers that the library is lent.
+    row: [u64; 4],
 }
 
 impl Default for Machine {
@@ -57,56 +56,76 @@ impl Default for Machine {
 impl Machine {
     /// A machine before its first packet, at the start of a log.
     pub fn new() -> Machine {
-        Machine { phase: 0, last: NO_COUNTER, taken: 0, place: 0 }
+        Machine { row: [0, NO_COUNTER, 0, 0] }
     }
 
-    /// A machine in a state that was kept elsewhere. A step judges the place, which has to be a multiple of 8 within the log.
+    /// A machine in a state that was kept elsewhere. A step or a run judges the place, which has to be a multiple of 8 within the log.
     pub fn from_parts(phase: Phase, last: Option<ContinuityCounter>, taken: u32, place: usize) -> Machine {
         let phase = match phase {
             Phase::Begin => 0,
             Phase::Started => 1,
             Phase::IgnoreRest => 2,
         };
-        Machine { phase, last: last.map_or(NO_COUNTER, ContinuityCounter::count), taken, place }
+        let last = last.map_or(NO_COUNTER, |counter| counter.count().into());
+        Machine { row: [phase, last, taken.into(), place as u64] }
     }
 
     /// Takes a packet, and writes its events to the log. The order of refusals: [`Error::WrongLength`], [`Error::NoSync`],
     /// [`Error::OutOfRange`] for a place that the log does not have, [`Error::IndexFull`], [`Error::LogFull`]. A refused packet
     /// changes neither the machine nor the log.
     pub fn step(&mut self, packet: &[u8], log: &mut [u8]) -> Result<(), Error> {
-        ffi::machine_step(self, packet, log)
+        ffi::machine_step(&mut self.row, packet, log)
     }
 
-    /// Steps over the packets of the bytes until one is refused, bytes after the last whole packet being [`Error::WrongLength`]. The
-    /// packets before the refused one are taken: [`Machine::taken`] says how many.
+    /// Takes whole packets one after another, as [`Machine::step`] does, up to the first one that would be refused. That packet, if there
+    /// is one, is no error of the run: [`Ran`] says how many packets were taken and why the next one was refused. The machine and the log
+    /// are then as they were after the last packet taken, so that the run can go on from there.
     ///
     /// ```
-    /// use clomaverift::{Error, Machine};
+    /// use clomaverift::{Error, Machine, Ran};
     ///
     /// let mut bytes = [0xFF; 2 * 188];
-    /// bytes[..4].copy_from_slice(&[0x47, 0x41, 0, 0x10]);
+    /// bytes[..13].copy_from_slice(&[0x47, 0x41, 0, 0x10, 0, 0, 1, 0xE0, 0, 0, 0x80, 0, 0]);
+    /// bytes[188] = 0x00; // where 47 hex is due
     /// let mut machine = Machine::new();
-    /// assert_eq!(machine.run(&bytes, &mut [0; 32]), Err(Error::NoSync));
+    /// let mut log = [0; 64];
+    /// assert_eq!(machine.run(&bytes, &mut log), Ok(Ran { packets: 1, ended: Some(Error::NoSync) }));
     /// assert_eq!(machine.taken(), 1);
+    /// assert_eq!(machine.events(&log).count(), 2);
     /// ```
-    pub fn run(&mut self, packets: &[u8], log: &mut [u8]) -> Result<(), Error> {
-        ffi::machine_run(self, packets, log)
+    ///
+    /// The run itself is refused with [`Error::WrongLength`] if the length of the bytes is not a multiple of 188; then with
+    /// [`Error::OutOfRange`] if the machine's place is not a multiple of 8 within the log, also if there are no bytes. A refused run takes
+    /// no packet, and changes neither the machine nor the log.
+    ///
+    /// ```
+    /// # use clomaverift::{Error, Machine, Phase};
+    /// let mut machine = Machine::new();
+    /// let mut log = [7; 64];
+    /// assert_eq!(machine.run(&[0x47; 187], &mut log), Err(Error::WrongLength));
+    /// assert_eq!((machine, log), (Machine::new(), [7; 64]));
+    ///
+    /// let mut between_entries = Machine::from_parts(Phase::Begin, None, 0, 4);
+    /// assert_eq!(between_entries.run(&[], &mut log), Err(Error::OutOfRange));
+    /// ```
+    pub fn run(&mut self, packets: &[u8], log: &mut [u8]) -> Result<Ran, Error> {
+        let [packets, ended] = ffi::machine_run(&mut self.row, packets, log)?;
+        Ok(Ran { packets: packets as u32, ended: Error::from_word(ended as u32) })
     }
 
     /// The events that the machine has written to its log.
     pub fn events<'log>(&self, log: &'log [u8]) -> Events<'log> {
-        Events::new(&log[..self.place.min(log.len())])
+        Events::new(&log[..self.place().min(log.len())])
     }
 
     /// Puts the machine at the start of a log, and its count of packets to 0. The stream goes on.
     pub fn rewind(&mut self) {
-        self.taken = 0;
-        self.place = 0;
+        self.row[2..].fill(0);
     }
 
     /// Where the machine is.
     pub fn phase(&self) -> Phase {
-        match self.phase {
+        match self.row[0] {
             0 => Phase::Begin,
             1 => Phase::Started,
             _ => Phase::IgnoreRest,
@@ -115,18 +134,37 @@ impl Machine {
 
     /// The counter of the last packet taken.
     pub fn last(&self) -> Option<ContinuityCounter> {
-        ContinuityCounter::new(self.last).ok()
+        ContinuityCounter::new(self.row[1] as u8).ok()
     }
 
     /// The packets taken: the index of the next one.
     pub fn taken(&self) -> u32 {
-        self.taken
+        self.row[2] as u32
     }
 
     /// The next free byte of the log.
     pub fn place(&self) -> usize {
-        self.place
+        self.row[3] as usize
     }
+}
+
+impl fmt::Debug for Machine {
+    fn fmt(&self, f: &mut fmt::Formatter<'_>) -> fmt::Result {
+        let mut parts = f.debug_struct("Machine");
+        parts.field("phase", &self.phase()).field("last", &self.last());
+        parts.field("taken", &self.taken()).field("place", &self.place()).finish()
+    }
+}
+
+/// What a run did.
+#[must_use = "a run may end before its last packet"]
+#[derive(Clone, Copy, Debug, PartialEq, Eq, Hash)]
+pub struct Ran {
+    /// How many packets the run took.
+    pub packets: u32,
+    /// Why the packet after those was refused; `None` if all were taken. One of [`Error::NoSync`], [`Error::IndexFull`] and
+    /// [`Error::LogFull`].
+    pub ended: Option<Error>,
 }
 
 /// What happened.
@@ -229,7 +267,7 @@ mod tests {
         let bytes = [packet(true, 0), packet(false, 1), packet(true, 3)].concat();
         let mut machine = Machine::new();
         let mut log = [0; 128];
-        assert_eq!(machine.run(&bytes, &mut log), Ok(()));
+        assert_eq!(machine.run(&bytes, &mut log), Ok(Ran { packets: 3, ended: None }));
         let expected = [
             (0, EventKind::StartStream, 0, 0),
             (0, EventKind::BeginPacket, 4, 184),
@@ -251,6 +289,50 @@ mod tests {
         assert_eq!(machine.step(&[0x47; 187], &mut log), Err(Error::WrongLength));
         assert_eq!(machine.step(&[0; 188], &mut log), Err(Error::NoSync));
         assert_eq!((machine, log), (before, [7; 8]));
+    }
+
+    #[test]
+    fn a_run_ends_before_the_packet_that_is_refused() {
+        let bytes = [packet(true, 0), packet(false, 1), packet(true, 2)].concat();
+        let mut machine = Machine::new();
+        let mut log = [7; 31]; // for three entries; the third packet has two more
+        assert_eq!(machine.run(&bytes, &mut log), Ok(Ran { packets: 2, ended: Some(Error::LogFull) }));
+        assert_eq!((machine.taken(), machine.place(), &log[24..]), (2, 24, &[7; 7][..]));
+        assert_eq!(machine.run(&bytes[376..], &mut log), Ok(Ran { packets: 0, ended: Some(Error::LogFull) }));
+        machine.rewind();
+        assert_eq!(machine.run(&bytes[376..], &mut log), Ok(Ran { packets: 1, ended: None }));
+        assert_eq!(told(&machine, &log), [(0, EventKind::EndPacket, 0, 0), (0, EventKind::BeginPacket, 4, 184)]);
+
+        let mut machine = Machine::from_parts(Phase::Started, ContinuityCounter::new(15).ok(), u32::MAX - 1, 0);
+        assert_eq!(machine.run(&bytes, &mut log), Ok(Ran { packets: 1, ended: Some(Error::IndexFull) }));
+        assert_eq!(machine.taken(), u32::MAX);
+    }
+
+    #[test]
+    fn a_run_over_no_packet() {
+        let mut machine = Machine::from_parts(Phase::IgnoreRest, ContinuityCounter::new(9).ok(), u32::MAX, 8);
+        let before = machine;
+        assert_eq!(machine.run(&[], &mut [0; 8]), Ok(Ran { packets: 0, ended: None }));
+        assert_eq!(machine, before);
+    }
+
+    #[test]
+    fn a_refused_run_changes_nothing() {
+        let bytes = [packet(true, 0), packet(false, 1)].concat();
+        let places = [0, 8, 12, 64, usize::MAX - 7];
+        for (machine, length) in places.iter().flat_map(|&place| {
+            let machine = Machine::from_parts(Phase::Started, ContinuityCounter::new(15).ok(), 5, place);
+            [0, 1, 187, 188, 189, 375, 376].map(|length| (machine, length))
+        }) {
+            let error = match (length % 188, machine.place()) {
+                (0, 0 | 8) => continue,
+                (0, _) => Error::OutOfRange,
+                _ => Error::WrongLength,
+            };
+            let (mut now, mut log) = (machine, [7; 40]);
+            assert_eq!(now.run(&bytes[..length], &mut log), Err(error), "{length} bytes, {machine:?}");
+            assert_eq!((now, log), (machine, [7; 40]));
+        }
     }
 
     #[test]

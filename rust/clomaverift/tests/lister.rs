@@ -1,6 +1,6 @@
 //! The event lister's worked example, by this crate: the input and the output that the program events is held to.
 
-use clomaverift::{Event, EventKind, Machine, Packet};
+use clomaverift::{Event, EventKind, Machine, Packet, Ran};
 
 const INPUT: &[u8] = include_bytes!(concat!(env!("CARGO_MANIFEST_DIR"), "/../../crates/events/stdin"));
 const OUTPUT: &str = include_str!(concat!(env!("CARGO_MANIFEST_DIR"), "/../../crates/events/stdout"));
@@ -20,7 +20,8 @@ fn line(event: Event) -> String {
 fn the_worked_example() {
     let mut machine = Machine::new();
     let mut log = vec![0; 16 * INPUT.len() / Packet::SIZE];
-    assert_eq!(machine.run(INPUT, &mut log), Ok(()));
+    let packets = (INPUT.len() / Packet::SIZE) as u32;
+    assert_eq!(machine.run(INPUT, &mut log), Ok(Ran { packets, ended: None }));
     let mut lines = vec!["packet event place length".to_string()];
     lines.extend(machine.events(&log).map(|event| line(event.unwrap())));
     lines.push(format!("packets {}", machine.taken()));

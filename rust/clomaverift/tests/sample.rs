@@ -1,7 +1,7 @@
 //! The sample stream, of which tools/sample says what is in it: five units of video on one PID; after the second a packet with a clock
 //! reference alone; in the fourth a packet left out.
 
-use clomaverift::{ClockRef, Demux, EventKind, Found, Machine, Packet, Pid, Timestamp};
+use clomaverift::{ClockRef, Demux, EventKind, Found, Machine, Packet, Pid, Ran, Timestamp};
 
 const SAMPLE: &[u8] = include_bytes!(concat!(env!("CARGO_MANIFEST_DIR"), "/../../samples/sample.ts"));
 const PID: u16 = 0x100;
@@ -117,7 +117,7 @@ fn rule(index: u64) -> Vec<EventKind> {
 fn a_run_logs_the_events_of_each_packet() {
     let mut machine = Machine::new();
     let mut log = [0; 16 * PACKETS];
-    assert_eq!(machine.run(SAMPLE, &mut log), Ok(()));
+    assert_eq!(machine.run(SAMPLE, &mut log), Ok(Ran { packets: PACKETS as u32, ended: None }));
     assert_eq!(machine.taken() as usize, PACKETS);
     let events: Vec<_> = machine.events(&log).map(Result::unwrap).collect();
     let told: Vec<_> = events.iter().map(|event| (u64::from(event.index), event.kind)).collect();
