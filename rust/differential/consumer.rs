@@ -41,15 +41,15 @@ impl Oracle {
 
     /// In this state, where packets can bring it there. The start of a stream sets Started, and a break sets IgnoreRest: both leave a
     /// counter behind.
-    pub fn brought_to(phase: u8, last: u8) -> Option<Oracle> {
-        let mut oracle = Oracle::new();
+    pub fn brought_to(phase: u64, last: u64) -> Option<Oracle> {
+        let (mut oracle, counter) = (Oracle::new(), last as u8);
         match (phase, last) {
             (BEGIN, NONE) => return Some(oracle),
-            (BEGIN, 0..=15) => oracle.consume(&plain(last)),
-            (STARTED, 0..=15) => oracle.consume(&start(last)),
+            (BEGIN, 0..=15) => oracle.consume(&plain(counter)),
+            (STARTED, 0..=15) => oracle.consume(&start(counter)),
             (IGNORE_REST, 0..=15) => {
-                oracle.consume(&plain(last.wrapping_sub(2)));
-                oracle.consume(&plain(last))
+                oracle.consume(&plain(counter.wrapping_sub(2)));
+                oracle.consume(&plain(counter))
             }
             _ => return None,
         };
@@ -66,7 +66,7 @@ impl Oracle {
 
 /// The phase that the oracle was in, by the events of a packet with the start flag, a head and a counter that follows the last;
 /// nothing where that counter did not follow.
-pub fn phase_before(start: &Events) -> Option<u8> {
+pub fn phase_before(start: &Events) -> Option<u64> {
     match start[0].kind {
         event::START => Some(BEGIN),
         event::END => Some(STARTED),

@@ -75,9 +75,10 @@ impl Lending<'_> {
     pub fn bytes(&mut self, tally: &mut Tally, state: Gathering) {
         let (room, len) = (self.store.len(), self.part.len());
         let expected = held(state, self.packet(), room);
+        let mut now = state;
         let entry = |outs: &mut [u64; 3]| {
-            let word = state.bytes(&mut self.packets.slice()[self.part.clone()], self.store.slice(), outs);
-            (word, self.unchanged(0..0))
+            let word = now.bytes(&mut self.packets.slice()[self.part.clone()], self.store.slice(), outs);
+            (word, self.unchanged(0..0) && now.numbers() == state.numbers())
         };
         tally.call_lending(&expected, entry, || format!("{state:?}, store of {room} bytes, packet of {len}"));
     }
@@ -96,6 +97,9 @@ pub const LONGEST: usize = SIZE + 1;
 
 /// The bytes of a packet, as the numbers of an event and a state have them.
 const WHOLE_PACKET: u64 = SIZE as u64;
+
+/// Numbers for open: two stand for a state.
+const OPENED: [u64; 8] = [0, 1, 2, 255, 256, 1 << 32, 1 + (1 << 32), u64::MAX];
 
 const KINDS: [u64; 5] = [event::START, event::BEGIN, event::CONTINUE, event::END, event::ERROR];
 
@@ -141,15 +145,17 @@ impl Cases {
         packet
     }
 
-    /// Every number for where the bytes lie, numbers for open that stand for a state or not, and counts around each bound.
+    /// Every small number for where the bytes lie, and large ones of which some have lower bits that stand for a place or the store;
+    /// numbers for open that stand for a state or not; and counts around each bound, also those with which a large place would begin
+    /// anew at 0.
     fn every_state(&mut self) {
         for room in [0, 50, SIZE, LARGEST] {
-            for lies in 0..=255 {
+            for lies in (0..=256).chain([256 + 100, 1 << 32, STORE + (1 << 32), u64::MAX - 20, u64::MAX]) {
                 let packet = self.packet(4);
-                let bounds = [room as u64, WHOLE_PACKET.saturating_sub(lies.into())].into_iter().flat_map(around);
-                for count in bounds.chain([0, 1, 184, 1 << 32, u64::MAX - 187, u64::MAX]) {
-                    for (opened, kind) in [0, 1, 2, 255].into_iter().flat_map(|opened| KINDS.map(|kind| (opened, kind)))
-                    {
+                let bounds = [room as u64, WHOLE_PACKET.saturating_sub(lies), lies.wrapping_neg()];
+                let counts = bounds.into_iter().flat_map(around);
+                for count in counts.chain([0, 1, 184, 1 << 32, u64::MAX - 187, u64::MAX]) {
+                    for (opened, kind) in OPENED.into_iter().flat_map(|opened| KINDS.map(|kind| (opened, kind))) {
                         let event = Event { kind, place: 4, length: 184 };
                         self.take(Gathering { opened, count: count as usize, lies }, &packet, event, room);
                     }
@@ -174,8 +180,16 @@ impl Cases {
 
     /// Of each ground for a refusal several, with the others and without: the numbers have an order.
     fn every_refusal(&mut self) {
-        const STATES: [(u8, usize, u8); 6] =
-            [(0, 0, STORE), (1, 100, STORE), (1, 100, 88), (1, 100, 89), (2, 0, STORE), (1, 301, STORE)];
+        const STATES: [(u64, usize, u64); 8] = [
+            (0, 0, STORE),
+            (1, 100, STORE),
+            (1, 100, 88),
+            (1, 100, 89),
+            (2, 0, STORE),
+            (1 + (1 << 32), 0, STORE),
+            (1, 0, 88 + (1 << 32)),
+            (1, 301, STORE),
+        ];
         const EVENTS: [(u64, u64, u64); 8] =
             [(1, 188, 0), (2, 4, 184), (3, 4, 184), (4, 0, 0), (5, 189, 0), (0, 0, 0), (3, 4, 185), (6, 4, 4)];
         for (packet, sync) in [0, 1, 187, 188, 189].into_iter().flat_map(|len| [0x47, 0x46].map(|sync| (len, sync))) {
@@ -198,8 +212,8 @@ impl Cases {
         let place = self.rng.below(SIZE + 1);
         let length = if self.rng.below(2) == 0 { SIZE - place } else { self.rng.below(SIZE + 1 - place) };
         let kind = KINDS[[1, 1, 1, 2, 2, 2, 0, 3, 4][self.rng.below(9)]];
-        let lies = if self.rng.below(2) == 0 { STORE } else { self.rng.below(SIZE + 1) as u8 };
-        let count = self.rng.below(if lies == STORE { 300 } else { SIZE + 1 - usize::from(lies) });
+        let lies = if self.rng.below(2) == 0 { STORE } else { self.rng.below(SIZE + 1) as u64 };
+        let count = self.rng.below(if lies == STORE { 300 } else { SIZE + 1 - lies as usize });
         let room = match self.rng.below(4) {
             0 => (count + length + 1).saturating_sub(self.rng.below(3)),
             1 => (count + self.rng.below(length + 1)).max(1) - self.rng.below(2),

@@ -36,7 +36,7 @@ pub fn gathered(state: Gathering, packet: &[u8], event: Event, room: usize) -> G
     }
     let after = match event.kind {
         event::START => state,
-        event::BEGIN => Gathering { opened: 1, count, lies: added.start as u8 },
+        event::BEGIN => Gathering { opened: 1, count, lies: added.start as u64 },
         event::CONTINUE => Gathering { count, lies: STORE, ..state },
         event::END => Gathering { opened: 0, count, lies: STORE },
         _ => Gathering::FIRST,
@@ -48,7 +48,7 @@ pub fn gathered(state: Gathering, packet: &[u8], event: Event, room: usize) -> G
 pub fn held(state: Gathering, packet: &[u8], room: usize) -> Answer {
     match (judged(state, packet, room), state.lies) {
         (0, STORE) => Answer::done(&[1, 0, state.count as u64]),
-        (0, place) => Answer::done(&[0, place.into(), state.count as u64]),
+        (0, place) => Answer::done(&[0, place, state.count as u64]),
         (number, _) => Answer::refused(number, &[]),
     }
 }
@@ -64,7 +64,7 @@ fn judged(state: Gathering, packet: &[u8], room: usize) -> u32 {
     if state.opened > 1 || state.count > room {
         return 14;
     }
-    if state.lies != STORE && usize::from(state.lies) + state.count > SIZE {
+    if state.lies != STORE && u128::from(state.lies) + state.count as u128 > SIZE as u128 {
         return 14;
     }
     0

@@ -128,7 +128,7 @@ impl Walk {
     fn end(&mut self, unit: &Gatherer, state: Gathering, from: usize) {
         let bytes = match state.lies {
             STORE => &self.store.slice()[..state.count],
-            place => &self.packets.slice()[from + usize::from(place)..][..state.count],
+            place => &self.packets.slice()[from + place as usize..][..state.count],
         };
         let last = state.count.saturating_sub(SIZE);
         let agrees = state.count == unit.bytes.len() && bytes[last..] == unit.bytes[last..];
@@ -138,7 +138,7 @@ impl Walk {
     fn take(&mut self, unit: &Gatherer, state: Gathering, agrees: bool) {
         let input = || format!("event {}, store of {} bytes", self.events, self.store.len());
         let given = || format!("{state:?}, where the unit has {} bytes", unit.bytes.len());
-        self.unit.take_check(&Answer::done(&[]), agrees && u8::from(unit.open) == state.opened, input, given);
+        self.unit.take_check(&Answer::done(&[]), agrees && u64::from(unit.open) == state.opened, input, given);
     }
 
     /// Says how many events were gathered.

@@ -1,21 +1,26 @@
-//! Safe calls of the entries of the event machine and of its log. A state is four numbers that the caller keeps and lends.
+//! Safe calls of the entries of the event machine and of its log. A state is a row of four numbers that the caller keeps and lends.
 
 use crate::declarations::{cmv_log_entry_at, cmv_machine_run, cmv_machine_step};
 
 /// The numbers of the phases.
-pub const BEGIN: u8 = 0;
-pub const STARTED: u8 = 1;
-pub const IGNORE_REST: u8 = 2;
+pub const BEGIN: u64 = 0;
+pub const STARTED: u64 = 1;
+pub const IGNORE_REST: u64 = 2;
 
 /// The number of no last counter.
-pub const NONE: u8 = 255;
+pub const NONE: u64 = 255;
 
+/// The most packets that a state counts.
+pub const MOST_TAKEN: u64 = u32::MAX as u64;
+
+/// The numbers lie in memory as those of the row do: the library is for x86-64, where a place has 64 bits.
 #[derive(Clone, Copy, Debug)]
+#[repr(C)]
 pub struct State {
-    pub phase: u8,
-    pub last: u8,
+    pub phase: u64,
+    pub last: u64,
     /// The packets taken so far: the index of the next one.
-    pub taken: u32,
+    pub taken: u64,
     /// The next free byte of the log.
     pub place: usize,
 }
@@ -27,33 +32,33 @@ impl State {
     /// Whether the numbers stand for a state, beside a log of this length.
     pub fn stands(&self, log: usize) -> bool {
         let counter = self.last < 16 || self.last == NONE;
-        self.phase <= IGNORE_REST && counter && self.place <= log && self.place % 8 == 0
+        let sound = self.phase <= IGNORE_REST && counter && self.taken <= MOST_TAKEN;
+        sound && self.place <= log && self.place % 8 == 0
     }
 
     pub fn numbers(&self) -> [u64; 4] {
-        [self.phase.into(), self.last.into(), self.taken.into(), self.place as u64]
+        [self.phase, self.last, self.taken, self.place as u64]
+    }
+
+    fn row(&mut self) -> *mut [u64; 4] {
+        (self as *mut State).cast()
     }
 }
 
-/// What advances a state over packets and writes their events to a log. The library only reads the packets. They are taken as `&mut`
-/// here, so that the compiler expects a write and the caller's check that there was none is a true one.
-pub type Advance = fn(&mut State, packets: &mut [u8], log: &mut [u8]) -> u32;
-
-/// Makes a safe function of each entry that does so.
-macro_rules! advances {
-    ($($function:ident = $entry:ident;)*) => {
-        $(pub fn $function(state: &mut State, packets: &mut [u8], log: &mut [u8]) -> u32 {
-            let State { phase, last, taken, place } = state;
-            let (packets, packets_len) = (packets.as_mut_ptr(), packets.len());
-            // The pointers and the lengths are those of live numbers and slices, no two of which share a byte: all that the entry asks.
-            unsafe { $entry(phase, last, taken, place, packets, packets_len, log.as_mut_ptr(), log.len()) }
-        })*
-    };
+/// Steps over a packet, and writes its events to a log. The library only reads the packet. It is taken as `&mut` here, so that the
+/// compiler expects a write and the caller's check that there was none is a true one.
+pub fn step(state: &mut State, packet: &mut [u8], log: &mut [u8]) -> u32 {
+    let (packet, packet_len) = (packet.as_mut_ptr(), packet.len());
+    // The pointers and the lengths are those of a live row and live slices, no two of which share a byte: all that the entry asks.
+    unsafe { cmv_machine_step(state.row(), packet, packet_len, log.as_mut_ptr(), log.len()) }
 }
 
-advances! {
-    step = cmv_machine_step;
-    run = cmv_machine_run;
+/// Runs over packets, which are `&mut` for the same reason. The out numbers: how many packets were taken, and the number that the next
+/// one was refused with.
+pub fn run(state: &mut State, packets: &mut [u8], log: &mut [u8], [taken, ended]: &mut [u64; 2]) -> u32 {
+    let (packets, packets_len) = (packets.as_mut_ptr(), packets.len());
+    // As for `step`, and the out numbers are live.
+    unsafe { cmv_machine_run(state.row(), packets, packets_len, log.as_mut_ptr(), log.len(), taken, ended) }
 }
 
 /// The log is only read; it is `&mut` for the same reason.

@@ -2,8 +2,8 @@
 
 use crate::answer::Answer;
 use crate::consumer::{phase_before, start, Oracle, SIZE};
-use crate::event::{decoded, ENTRY};
-use crate::host_machine::{self, log_entry_at, Advance, State, BEGIN, IGNORE_REST, NONE, STARTED};
+use crate::event::{decoded, Event, ENTRY};
+use crate::host_machine::{self, log_entry_at, State, BEGIN, IGNORE_REST, MOST_TAKEN, NONE, STARTED};
 use crate::kept::Keeps;
 use crate::lent::Lent;
 use crate::machine_stream;
@@ -22,6 +22,7 @@ fn compare(plan: &Plan) -> Vec<Tally> {
     try_kept();
     let mut cases = Cases::new(plan.rng(1));
     cases.every_state();
+    cases.every_row();
     cases.every_refusal();
     let mut tallies = cases.into_tallies();
     let mut rng = plan.rng(2);
@@ -37,9 +38,9 @@ fn try_kept() {
     assert!(std::ptr::eq(header.kept(), &bytes[4..]), "the oracle's header is not the slice that it keeps");
 }
 
-// ---- A call.
+// ---- Calls.
 
-/// A call of an entry that advances a state, with the packets and the log that are lent.
+/// A step or a run, with the packets and the log that are lent.
 pub struct Call<'a> {
     pub state: State,
     pub packets: &'a mut Lent,
@@ -50,21 +51,85 @@ pub struct Call<'a> {
     pub room: usize,
 }
 
+/// What a run tells that is not refused: how many packets it took, and the number that the next one was refused with.
+#[derive(Clone, Copy)]
+pub struct Ran {
+    pub packets: usize,
+    pub ended: u32,
+}
+
+/// The answers of runs, and beside them, of runs that are not refused, whether all packets are accepted or by which number the next one
+/// is not.
+pub struct Runs {
+    run: Tally,
+    packets: Tally,
+}
+
+impl Runs {
+    /// The numbers that have to be among the answers, and among those that end a run.
+    pub fn new(name: &str, [run, ended]: [&'static [usize]; 2]) -> Runs {
+        Runs { run: Tally::new(name, run), packets: Tally::beside(&format!("{name}: all its packets"), ended) }
+    }
+
+    pub fn into_tallies(self) -> [Tally; 2] {
+        [self.run, self.packets]
+    }
+}
+
 impl Call<'_> {
-    /// Calls the entry and counts its answer, which is to be this number with this state after it. What the log is to hold then,
-    /// `expect` has said.
-    pub fn compare(self, entry: Advance, tally: &mut Tally, number: u32, after: State) {
-        let Call { state, packets, part, log, room } = self;
-        let mut now = state;
-        let word = entry(&mut now, &mut packets.slice()[part.clone()], &mut log.slice()[..room]);
-        let expected = match number {
-            0 => Answer::done(&after.numbers()),
-            number => Answer::refused(number, &[]),
+    /// Steps and counts the answer, which is to be this number with this state after it. What the log is to hold then, `expect` has
+    /// said.
+    pub fn step(mut self, tally: &mut Tally, number: u32, after: State) {
+        let mut now = self.state;
+        let (packet, log) = self.slices();
+        let word = host_machine::step(&mut now, packet, log);
+        let (held, outs, unchanged) = (&self.state.numbers(), &now.numbers(), self.unchanged());
+        tally.take(&answer(number, &after.numbers()), &Given { word, held, outs, unchanged }, || self.text());
+    }
+
+    /// Runs and counts the answer: a number, or what the run tells with this state after it.
+    pub fn run(mut self, runs: &mut Runs, expected: Result<Ran, u32>, after: State) {
+        let (mut now, held) = (self.state, [runs.run.held(0), runs.run.held(1)]);
+        let mut outs = held;
+        let (packets, log) = self.slices();
+        let word = host_machine::run(&mut now, packets, log, &mut outs);
+        let (number, told) = match expected {
+            Ok(ran) => (0, [ran.packets as u64, ran.ended.into()]),
+            Err(number) => (number, held),
         };
-        let unchanged = packets.unchanged_near(part.clone()) && log.unchanged();
-        // A run that is refused keeps the packets before: the state that is to be held is the one after them.
-        let given = Given { word, held: &after.numbers(), outs: &now.numbers(), unchanged };
-        tally.take(&expected, &given, || format!("{state:?}, log of {room} bytes, {}", text(&packets.slice()[part])));
+        let given = Given { word, held: &with(self.state, held), outs: &with(now, outs), unchanged: self.unchanged() };
+        runs.run.take(&answer(number, &with(after, told)), &given, || self.text());
+        if let Ok(Ran { ended, .. }) = expected {
+            let agrees = outs[1] == ended.into();
+            runs.packets.take_check(&answer(ended, &[]), agrees, || self.text(), || outs[1].to_string());
+        }
+    }
+
+    fn slices(&mut self) -> (&mut [u8], &mut [u8]) {
+        (&mut self.packets.slice()[self.part.clone()], &mut self.log.slice()[..self.room])
+    }
+
+    fn unchanged(&self) -> bool {
+        self.packets.unchanged_near(self.part.clone()) && self.log.unchanged()
+    }
+
+    fn text(&mut self) -> String {
+        let (state, room) = (self.state, self.room);
+        format!("{state:?}, log of {room} bytes, {}", text(self.slices().0))
+    }
+}
+
+/// The numbers of a state, and the out numbers of a run.
+fn with(state: State, [packets, ended]: [u64; 2]) -> [u64; 6] {
+    let [phase, last, taken, place] = state.numbers();
+    [phase, last, taken, place, packets, ended]
+}
+
+/// Done with these values, or refused.
+fn answer(number: u32, values: &[u64]) -> Answer {
+    match number {
+        0 => Answer::done(values),
+        number => Answer::refused(number, &[]),
     }
 }
 
@@ -78,12 +143,18 @@ fn can_be_reached(state: State) -> bool {
     state.last != NONE || !matches!(state.phase, STARTED | IGNORE_REST)
 }
 
-// ---- Single steps.
+// ---- Single packets.
+
+/// Where a packet's answers are counted.
+struct Tallies {
+    step: Tally,
+    runs: Runs,
+}
 
 pub struct Cases {
-    step: Tally,
-    /// Steps from the states that the oracle cannot be brought to.
-    ruled: Tally,
+    told: Tallies,
+    /// From the states that the oracle cannot be brought to.
+    ruled: Tallies,
     /// The rules that those are held against, in the other states.
     rules: Tally,
     pub rng: Rng,
@@ -91,15 +162,22 @@ pub struct Cases {
     log: Lent,
 }
 
-/// The longest packet and the longest log of a single step.
+/// The longest packet and the longest log of a single packet's answers.
 pub const LONGEST_PACKET: usize = SIZE + 1;
 pub const LONGEST_LOG: usize = 40;
 
 impl Cases {
     pub fn new(rng: Rng) -> Cases {
+        const RUNS: [&[usize]; 2] = [&[0, 1, 14], &[0, 2, 15, 16]];
         Cases {
-            step: Tally::new("machine::step", &[0, 1, 2, 14, 15, 16]),
-            ruled: Tally::new("machine::step, by the rules: phases without a counter", &[0, 15]),
+            told: Tallies {
+                step: Tally::new("machine::step", &[0, 1, 2, 14, 15, 16]),
+                runs: Runs::new("machine::run, over a packet or none", RUNS),
+            },
+            ruled: Tallies {
+                step: Tally::new("machine::step, by the rules: phases without a counter", &[0, 15]),
+                runs: Runs::new("machine::run, by the rules: phases without a counter", RUNS),
+            },
             rules: Tally::of_oracle("machine::step, the rules against the Rust", &[0]),
             rng,
             packet: Lent::new(LONGEST_PACKET),
@@ -107,33 +185,36 @@ impl Cases {
         }
     }
 
-    /// Steps over a packet, with a log of this length, and gives the state that is to be after it.
-    pub fn step(&mut self, state: State, packet: &[u8], room: usize) -> State {
+    /// Steps over a packet and runs over its bytes, with a log of this length, and gives the state that is to be after the step.
+    pub fn take(&mut self, state: State, packet: &[u8], room: usize) -> State {
+        let judged = self.judged(state, packet, room);
+        let (number, events, after) = match &judged {
+            Ok(happened) => (0, &happened.events[..], next(state, happened)),
+            Err(number) => (*number, &[][..], state),
+        };
+        self.lend(state, packet, room, events);
+        self.call(state, room, |call, tallies| call.step(&mut tallies.step, number, after));
+        self.lend(state, packet, room, events);
+        let ran = ran(state, packet, room, number);
+        self.call(state, room, |call, tallies| call.run(&mut tallies.runs, ran, after));
+        after
+    }
+
+    /// Sets the packet, and a log of this length that is to hold the events afterwards.
+    fn lend(&mut self, state: State, packet: &[u8], room: usize, events: &[Event]) {
         let guard = self.rng.next() as u8;
         let filling: [u64; LONGEST_LOG / 8] = std::array::from_fn(|_| self.rng.next());
         let filling = filling.map(u64::to_be_bytes);
         self.packet.set(packet, guard);
         self.log.set(&filling.as_flattened()[..room], !guard);
-        let (number, after) = match self.judged(state, packet, room) {
-            Ok(happened) => (0, self.expect(state, &happened)),
-            Err(number) => (number, state),
-        };
-        let tally = if can_be_reached(state) { &mut self.step } else { &mut self.ruled };
-        let call = Call { state, packets: &mut self.packet, part: 0..packet.len(), log: &mut self.log, room };
-        call.compare(host_machine::step, tally, number, after);
-        after
+        let entries = events.iter().zip((state.place..).step_by(ENTRY));
+        entries.for_each(|(event, at)| self.log.expect(at, &event.entry(state.taken as u32)));
     }
 
-    /// Has the log expect the entries, and gives the state after them.
-    fn expect(&mut self, state: State, happened: &Happened) -> State {
-        let entries = happened.events.iter().zip((state.place..).step_by(ENTRY));
-        entries.for_each(|(event, at)| self.log.expect(at, &event.entry(state.taken)));
-        State {
-            phase: happened.phase,
-            last: happened.last,
-            taken: state.taken + 1,
-            place: state.place + happened.events.room(),
-        }
+    fn call(&mut self, state: State, room: usize, compare: impl FnOnce(Call, &mut Tallies)) {
+        let tallies = if can_be_reached(state) { &mut self.told } else { &mut self.ruled };
+        let part = 0..self.packet.len();
+        compare(Call { state, packets: &mut self.packet, part, log: &mut self.log, room }, tallies);
     }
 
     /// What a packet does, or the number of the refusal: in the order of the request.
@@ -147,7 +228,7 @@ impl Cases {
         if !state.stands(room) {
             return Err(14);
         }
-        if state.taken == u32::MAX {
+        if state.taken == MOST_TAKEN {
             return Err(16);
         }
         let happened = self.happened(state, packet);
@@ -165,7 +246,7 @@ impl Cases {
         let events = oracle.consume(packet);
         let last = Packet::new(packet).continuity_counter().count();
         let phase = phase_before(&oracle.consume(&start(last + 1))).expect("the packet's counter is the last");
-        let told = Happened { events, phase, last };
+        let told = Happened { events, phase, last: last.into() };
         let input = || format!("{state:?}, {}", text(packet));
         self.rules.take_check(&Answer::done(&[]), told == ruled, input, || format!("{told:?}, {ruled:?}"));
         told
@@ -186,13 +267,25 @@ impl Cases {
         }
     }
 
-    fn state(&mut self, phase: u8, last: u8, [flags, control, length]: [u8; 3], head: [u8; 6]) {
+    fn state(&mut self, phase: u64, last: u64, [flags, control, length]: [u8; 3], head: [u8; 6]) {
         let random = self.rng.next();
         let packet = packet([flags | random as u8 & 0xbf, (random >> 8) as u8, control, length], head);
         let place = ENTRY * (random >> 16 & 1) as usize;
-        let state = State { phase, last, taken: (random >> 32) as u32 >> 1, place };
-        let after = self.step(state, &packet, LONGEST_LOG);
-        self.step(after, &start(after.last + 1), LONGEST_LOG);
+        let after = self.take(State { phase, last, taken: random >> 33, place }, &packet, LONGEST_LOG);
+        self.take(after, &start(after.last as u8 + 1), LONGEST_LOG);
+    }
+
+    /// In every position of a row numbers that stand for something and numbers that stand for nothing, of which some have lower bits
+    /// that do; each row with every fault of a packet, as 1 and 2 come before 14.
+    fn every_row(&mut self) {
+        let [_, packet, _] = by_events();
+        for packet in every_packet_fault(&packet) {
+            for (phase, last) in PHASES.into_iter().flat_map(|phase| COUNTERS.map(|last| (phase, last))) {
+                for (taken, place) in TAKEN.into_iter().flat_map(|taken| PLACES.map(|place| (taken, place))) {
+                    self.take(State { phase, last, taken, place }, &packet, LONGEST_LOG);
+                }
+            }
+        }
     }
 
     /// Every number for a phase with every number for a counter; and of each ground for a refusal several, with the others and
@@ -200,9 +293,9 @@ impl Cases {
     fn every_refusal(&mut self) {
         let [none, one, two] = by_events();
         for (phase, last) in (0..=255).flat_map(|phase| (0..=255).map(move |last| (phase, last))) {
-            self.step(State { phase, last, taken: 0, place: 0 }, &one, 2 * ENTRY);
+            self.take(State { phase, last, taken: 0, place: 0 }, &one, 2 * ENTRY);
         }
-        for taken in [0, u32::MAX - 1, u32::MAX] {
+        for taken in [0, MOST_TAKEN - 1, MOST_TAKEN] {
             for (phase, last) in [(BEGIN, NONE), (STARTED, 15), (STARTED, NONE), (IGNORE_REST, 16), (3, 0), (255, 255)]
             {
                 for packet in [none, one, two].iter().flat_map(every_packet_fault) {
@@ -217,15 +310,44 @@ impl Cases {
         for room in 0..=LONGEST_LOG {
             let near = [room.wrapping_sub(16), room.wrapping_sub(8), room.wrapping_sub(1), room, room + 1, room + 8];
             for place in near.into_iter().chain([0, 1, 4, 7, 8, 16, 1 << 63, usize::MAX - 7, usize::MAX]) {
-                self.step(State { place, ..state }, packet, room);
+                self.take(State { place, ..state }, packet, room);
             }
         }
     }
 
     fn into_tallies(self) -> Vec<Tally> {
-        vec![self.step, self.ruled, self.rules]
+        let both = [self.told, self.ruled].into_iter();
+        let counted = both.flat_map(|Tallies { step, runs }| [step].into_iter().chain(runs.into_tallies()));
+        counted.chain([self.rules]).collect()
     }
 }
+
+/// The state after a packet that does this.
+fn next(state: State, happened: &Happened) -> State {
+    let Happened { events, phase, last } = happened;
+    State { phase: *phase, last: *last, taken: state.taken + 1, place: state.place + events.room() }
+}
+
+/// What a run over a packet or none is to tell, where a step over it gives this number; or the number of the refusal.
+fn ran(state: State, packets: &[u8], room: usize, number: u32) -> Result<Ran, u32> {
+    if packets.len() % SIZE != 0 {
+        return Err(1);
+    }
+    if !state.stands(room) {
+        return Err(14);
+    }
+    Ok(match (packets.len() / SIZE, number) {
+        (0, _) => Ran { packets: 0, ended: 0 },
+        (_, 0) => Ran { packets: 1, ended: 0 },
+        (_, ended) => Ran { packets: 0, ended },
+    })
+}
+
+/// Numbers of each position of a row.
+const PHASES: [u64; 9] = [0, 1, 2, 3, 255, 256, 1 << 32, 1 + (1 << 32), u64::MAX];
+const COUNTERS: [u64; 9] = [0, 15, 16, 254, 255, 256, 1 << 32, 255 + (1 << 32), u64::MAX];
+const TAKEN: [u64; 6] = [0, MOST_TAKEN - 1, MOST_TAKEN, MOST_TAKEN + 1, 1 << 63, u64::MAX];
+const PLACES: [usize; 5] = [0, ENTRY, ENTRY - 1, LONGEST_LOG + ENTRY, usize::MAX - 7];
 
 // ---- Packets.
 

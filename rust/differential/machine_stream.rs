@@ -3,9 +3,9 @@
 use crate::consumer::{Oracle, SIZE};
 use crate::event::{self, ENTRY};
 use crate::files::Files;
-use crate::host_machine::{self, log_entry_at, State, IGNORE_REST, STARTED};
+use crate::host_machine::{log_entry_at, State, IGNORE_REST, MOST_TAKEN, STARTED};
 use crate::lent::Lent;
-use crate::machine::{entry_answer, set_head, Call};
+use crate::machine::{entry_answer, set_head, Call, Ran, Runs};
 use crate::rng::Rng;
 use crate::tally::{grouped, report, Tally};
 use mpeg2ts_reader::packet::Packet;
@@ -22,11 +22,11 @@ const ALWAYS: usize = 100_000;
 
 /// Compares on random streams of so many packets more than are always compared. The first runs out of indices.
 pub fn compare_random(count: u64, rng: &mut Rng) -> Vec<Tally> {
-    let mut walk = Walk::new(MOST, [&[0, 15, 16], &[0, 2, 14, 15, 16], &[0]]);
+    let mut walk = Walk::new(MOST, [&[0, 15, 16], &[0, 1, 14], &[0, 2, 15, 16], &[0]]);
     let mut packets = vec![0; MOST * SIZE];
     rng.fill(&mut packets);
     make_stream(&mut packets, rng);
-    walk.stream(&packets, State { taken: u32::MAX - MOST as u32 / 2, ..State::FIRST }, rng);
+    walk.stream(&packets, State { taken: MOST_TAKEN - MOST as u64 / 2, ..State::FIRST }, rng);
     let mut left = ALWAYS + count as usize;
     while left > 0 {
         let stream = &mut packets[..SIZE * (1 + rng.below(MOST)).min(left)];
@@ -43,7 +43,7 @@ pub fn compare_random(count: u64, rng: &mut Rng) -> Vec<Tally> {
 pub fn compare_files(files: &[String]) -> bool {
     let began = Instant::now();
     let Some(files) = Files::read(files) else { return false };
-    let mut walk = Walk::new(files.most(), [&[]; 3]);
+    let mut walk = Walk::new(files.most(), [&[]; 4]);
     files.each(|stream, rng| walk.stream(stream, State::FIRST, rng));
     report("events", began, &walk.into_tallies())
 }
@@ -65,9 +65,9 @@ impl Told {
         let mut told = Told { first, after: Vec::with_capacity(count), log: Vec::with_capacity(2 * ENTRY * count) };
         let mut oracle = Oracle::new();
         let mut state = first;
-        for bytes in packets.chunks_exact(SIZE).take((u32::MAX - first.taken) as usize) {
+        for bytes in packets.chunks_exact(SIZE).take((MOST_TAKEN - first.taken) as usize) {
             let events = oracle.consume(bytes);
-            events.iter().for_each(|event| told.log.extend_from_slice(&event.entry(state.taken)));
+            events.iter().for_each(|event| told.log.extend_from_slice(&event.entry(state.taken as u32)));
             let packet = Packet::new(bytes);
             // The oracle keeps its phase to itself. It is what a break and the start flag make it; single steps look for it.
             if events.iter().any(|event| event.kind == event::ERROR) {
@@ -76,7 +76,7 @@ impl Told {
             if packet.payload_unit_start_indicator() {
                 state.phase = STARTED;
             }
-            state.last = packet.continuity_counter().count();
+            state.last = packet.continuity_counter().count().into();
             state.taken += 1;
             state.place = told.log.len();
             told.after.push(state);
@@ -98,7 +98,7 @@ impl Told {
 
 pub struct Walk {
     step: Tally,
-    run: Tally,
+    runs: Runs,
     entry_at: Tally,
     packets: Lent,
     step_log: Lent,
@@ -112,7 +112,7 @@ pub struct Walk {
 struct Piece {
     from: usize,
     count: usize,
-    /// The bytes of the packet after them, too few to count.
+    /// Bytes of the packet after them: too few for one.
     tail: usize,
     state: State,
     /// A packet that lost its sync byte.
@@ -121,14 +121,15 @@ struct Piece {
 }
 
 impl Walk {
-    /// Room for streams of so many packets; the numbers that have to be among the answers.
-    pub fn new(most: usize, [step, run, entry_at]: [&'static [usize]; 3]) -> Walk {
+    /// Room for streams of so many packets; the numbers that have to be among the answers, and after those of runs the numbers that
+    /// have to be among their ends.
+    pub fn new(most: usize, [step, run, ended, entry_at]: [&'static [usize]; 4]) -> Walk {
         let log = 2 * ENTRY * most + STEP_LOG;
         let mut filling = vec![0; log];
         Rng::new(most as u64).fill(&mut filling);
         Walk {
             step: Tally::new("machine::step, streams", step),
-            run: Tally::new("machine::run, streams", run),
+            runs: Runs::new("machine::run, streams", [run, ended]),
             entry_at: Tally::new("log::entry_at, streams", entry_at),
             packets: Lent::new(most * SIZE),
             step_log: Lent::new(STEP_LOG),
@@ -173,7 +174,7 @@ impl Walk {
     fn step(&mut self, nth: usize, state: State, number: u32, after: State) {
         let (part, room) = (nth * SIZE..(nth + 1) * SIZE, self.step_log.len());
         let call = Call { state, packets: &mut self.packets, part, log: &mut self.step_log, room };
-        call.compare(host_machine::step, &mut self.step, number, after);
+        call.step(&mut self.step, number, after);
     }
 
     fn runs(&mut self, told: &Told, rng: &mut Rng) {
@@ -181,38 +182,44 @@ impl Walk {
         let mut from = 0;
         while from < self.count() {
             let piece = self.piece(told, from, rng);
-            let (number, taken) = piece.outcome(told);
-            self.run(told, &piece, number, taken);
-            from += taken;
-            if number == 16 {
+            let ran = piece.outcome(told);
+            self.run(told, &piece, ran);
+            from += ran.map_or(0, |ran| ran.packets);
+            if ran.is_ok_and(|ran| ran.ended == 16) {
                 return;
             }
         }
     }
 
-    fn run(&mut self, told: &Told, piece: &Piece, number: u32, taken: usize) {
+    fn run(&mut self, told: &Told, piece: &Piece, ran: Result<Ran, u32>) {
+        let taken = ran.map_or(0, |ran| ran.packets);
         let after = if taken == 0 { piece.state } else { told.before(piece.from + taken) };
         self.log.expect(told.before(piece.from).place, told.entries(piece.from, taken));
-        let end = self.packets.len().min((piece.from + piece.count) * SIZE + piece.tail);
+        let end = (piece.from + piece.count) * SIZE + piece.tail;
         let (state, part, room) = (piece.state, piece.from * SIZE..end, piece.room);
         piece.lost.into_iter().for_each(|lost| self.packets.put(lost * SIZE, 0xb8));
         let call = Call { state, packets: &mut self.packets, part, log: &mut self.log, room };
-        call.compare(host_machine::run, &mut self.run, number, after);
+        call.run(&mut self.runs, ran, after);
         piece.lost.into_iter().for_each(|lost| self.packets.put(lost * SIZE, Packet::SYNC_BYTE));
     }
 
     /// Up to 512 packets, or none. Of sixteen pieces one has a packet without its sync byte, three have a log that may be full before
-    /// the end, one a log that ends before the place, and one begins in a state that is none.
+    /// the end, one a log that ends before the place, and two begin in a state that is none; one of these, and one more, have bytes
+    /// after the packets.
     fn piece(&self, told: &Told, from: usize, rng: &mut Rng) -> Piece {
         let count = rng.below((self.count() - from).min(512) + 1);
         let state = told.before(from);
-        let mut piece = Piece { from, count, tail: rng.below(SIZE), state, lost: None, room: self.log.len() };
-        match rng.below(16) {
+        let mut piece = Piece { from, count, tail: 0, state, lost: None, room: self.log.len() };
+        let choice = rng.below(16);
+        match choice {
             0 => piece.lost = (count > 0).then(|| from + rng.below(count)),
             1..=3 => piece.room = piece.room.min(state.place + rng.below(ENTRY * count + 1)),
             4 => piece.room = rng.below(state.place + 1),
-            5 => piece.state = no_state(state, rng),
+            5 | 6 => piece.state = no_state(state, rng),
             _ => (),
+        }
+        if choice == 6 || choice == 7 {
+            piece.tail = rng.below(SIZE).min(self.packets.len() - (from + count) * SIZE);
         }
         piece
     }
@@ -229,25 +236,29 @@ impl Walk {
     /// Says how many packets were taken.
     fn into_tallies(self) -> Vec<Tally> {
         println!("machine: {} packets of streams taken, each by a step and again by a run", grouped(self.taken));
-        vec![self.step, self.run, self.entry_at]
+        [self.step].into_iter().chain(self.runs.into_tallies()).chain([self.entry_at]).collect()
     }
 }
 
 impl Piece {
-    /// The number of the run, and how many packets are taken before it.
-    fn outcome(&self, told: &Told) -> (u32, usize) {
+    /// What the run is to tell, or the number that it is refused with.
+    fn outcome(&self, told: &Told) -> Result<Ran, u32> {
+        if self.tail != 0 {
+            return Err(1);
+        }
+        if !self.state.stands(self.room) {
+            return Err(14);
+        }
         let refusals = (self.from..self.from + self.count).map(|nth| self.refusal(told, nth));
         let refused = refusals.enumerate().find(|(_, number)| *number != 0);
-        refused.map_or((0, self.count), |(taken, number)| (number, taken))
+        let (packets, ended) = refused.unwrap_or((self.count, 0));
+        Ok(Ran { packets, ended })
     }
 
     /// The number for a packet, where those before it are taken.
     fn refusal(&self, told: &Told, nth: usize) -> u32 {
         if self.lost == Some(nth) {
             return 2;
-        }
-        if !self.state.stands(self.room) {
-            return 14;
         }
         match told.after.get(nth) {
             None => 16,
@@ -257,12 +268,16 @@ impl Piece {
     }
 }
 
-/// A state that is none: by its phase, its counter or its place.
+/// A state that is none, by one of its numbers. Of some the lower bits are those of the state.
 fn no_state(state: State, rng: &mut Rng) -> State {
-    match rng.below(4) {
-        0 => State { phase: 3 + rng.below(253) as u8, ..state },
-        1 => State { last: 16 + rng.below(239) as u8, ..state },
-        2 => State { place: state.place + 1 + rng.below(7), ..state },
+    let far = 1 << [8, 16, 32, 63][rng.below(4)];
+    match rng.below(7) {
+        0 => State { phase: 3 + rng.below(253) as u64, ..state },
+        1 => State { phase: state.phase + far, ..state },
+        2 => State { last: 16 + rng.below(239) as u64, ..state },
+        3 => State { last: state.last + far, ..state },
+        4 => State { taken: state.taken + (1 << 32), ..state },
+        5 => State { place: state.place + 1 + rng.below(7), ..state },
         _ => State { place: usize::MAX - 7, ..state },
     }
 }
@@ -328,11 +343,11 @@ fn random_length(random: u8, choice: u64) -> u8 {
 }
 
 /// Mostly few; of four streams one has the largest index at its end or runs out of them.
-fn random_taken(count: usize, rng: &mut Rng) -> u32 {
+fn random_taken(count: usize, rng: &mut Rng) -> u64 {
     match rng.below(8) {
-        0 => u32::MAX - count as u32,
-        1 => u32::MAX - rng.below(count + 1) as u32,
-        2 => rng.next() as u32 >> 1,
+        0 => MOST_TAKEN - count as u64,
+        1 => MOST_TAKEN - rng.below(count + 1) as u64,
+        2 => rng.next() >> 33,
         _ => 0,
     }
 }

@@ -8,13 +8,13 @@ use crate::host_machine::{BEGIN, IGNORE_REST, NONE, STARTED};
 #[derive(Debug, PartialEq)]
 pub struct Happened {
     pub events: Events,
-    pub phase: u8,
-    pub last: u8,
+    pub phase: u64,
+    pub last: u64,
 }
 
-pub fn happened(phase: u8, last: u8, packet: &[u8]) -> Happened {
-    let (start, counter) = (packet[1] & 0x40 != 0, packet[3] & 0x0f);
-    let continuous = last == NONE || counter == (last + (packet[3] >> 4 & 1)) % 16;
+pub fn happened(phase: u64, last: u64, packet: &[u8]) -> Happened {
+    let (start, counter) = (packet[1] & 0x40 != 0, u64::from(packet[3] & 0x0f));
+    let continuous = last == NONE || counter == (last + u64::from(packet[3] >> 4 & 1)) % 16;
     let phase = if continuous { phase } else { IGNORE_REST };
     let mut events = Events::default();
     match (start, phase) {

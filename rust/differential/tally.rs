@@ -48,7 +48,7 @@ pub struct Tally {
     compared: u64,
     by_number: [u64; NUMBERS],
     differ: u64,
-    /// Whether what is compared is an answer of the library.
+    /// Whether what is compared is an answer of the library, which no other tally counts.
     answers: bool,
 }
 
@@ -68,6 +68,11 @@ impl Tally {
         Tally::of_oracle(name, must)
     }
 
+    /// A tally of a number that stands in answers which another tally counts.
+    pub fn beside(name: &str, must: &'static [usize]) -> Tally {
+        Tally::of_oracle(name, must)
+    }
+
     /// The answers of the library that were compared.
     pub fn compared(&self) -> u64 {
         if self.answers {
@@ -82,7 +87,7 @@ impl Tally {
     }
 
     /// What an out number is to hold before the next call: another pattern each time, and none that is a likely answer.
-    fn held(&self, nth: usize) -> u64 {
+    pub fn held(&self, nth: usize) -> u64 {
         !(self.compared + nth as u64).wrapping_mul(0x9e37_79b9_7f4a_7c15)
     }
 

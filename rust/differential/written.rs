@@ -4,10 +4,10 @@ use crate::answer::Answer;
 use crate::consumer::{Oracle, SIZE};
 use crate::event::{self, Event, ENTRY};
 use crate::gatherer::Gatherer;
-use crate::host_machine::{self, State, BEGIN, IGNORE_REST, NONE, STARTED};
+use crate::host_machine::{State, BEGIN, IGNORE_REST, NONE, STARTED};
 use crate::host_writer::Unit;
 use crate::lent::Lent;
-use crate::machine::Call;
+use crate::machine::{Call, Ran, Runs};
 use crate::reading::Reading;
 use crate::rng::Rng;
 use crate::tally::{hex, Tally};
@@ -47,7 +47,7 @@ impl Written<'_> {
     }
 
     /// The events of a packet, where the first comes in this phase.
-    fn events(&self, phase: u8, nth: usize) -> impl Iterator<Item = Event> {
+    fn events(&self, phase: u64, nth: usize) -> impl Iterator<Item = Event> {
         let lead = match (nth, phase) {
             (0, BEGIN) => Some(Event::bare(event::START)),
             (0, STARTED) => Some(Event::bare(event::END)),
@@ -66,7 +66,7 @@ pub struct ReadBack {
     fields: Tally,
     payload: Tally,
     events: Tally,
-    run: Tally,
+    runs: Runs,
     log: Lent,
     filling: Vec<u8>,
 }
@@ -82,7 +82,7 @@ impl ReadBack {
             fields: Tally::of_bytes("writer::write, read by the Rust: every field of the header", &[0, 9]),
             payload: Tally::of_bytes("writer::write, gathered by the Rust: one unit, the payload", &[0]),
             events: Tally::of_bytes("writer::write, read by the Rust's machine: the events", &[0]),
-            run: Tally::new("machine::run, over packets written", &[0]),
+            runs: Runs::new("machine::run, over packets written", [&[0], &[0]]),
             log: Lent::new(room),
             filling,
         }
@@ -96,12 +96,12 @@ impl ReadBack {
         self.read_packets(&mut written);
         self.read_header(&mut written);
         self.gather(&mut written);
-        let before = written.unit.counter.wrapping_sub(1) % 16;
+        let before = u64::from(written.unit.counter.wrapping_sub(1) % 16);
         for (phase, last) in
             [BEGIN, STARTED, IGNORE_REST].into_iter().flat_map(|phase| [(phase, NONE), (phase, before)])
         {
             self.read_events(&mut written, phase, last);
-            self.run(&mut written, State { phase, last, taken: rng.next() as u32 >> 1, place: 0 }, rng);
+            self.run(&mut written, State { phase, last, taken: rng.next() >> 33, place: 0 }, rng);
         }
     }
 
@@ -133,7 +133,7 @@ impl ReadBack {
     }
 
     /// From a state that the oracle can be brought to: no other events.
-    fn read_events(&mut self, written: &mut Written, phase: u8, last: u8) {
+    fn read_events(&mut self, written: &mut Written, phase: u64, last: u64) {
         let Some(mut oracle) = Oracle::brought_to(phase, last) else { return };
         let odd = (0..written.count).find(|&nth| {
             let events = oracle.consume(written.packet(nth));
@@ -145,23 +145,24 @@ impl ReadBack {
 
     /// The library's machine writes these events to its log.
     fn run(&mut self, written: &mut Written, state: State, rng: &mut Rng) {
-        let mut after = State { phase: STARTED, taken: state.taken + written.count as u32, ..state };
-        after.last = ((usize::from(written.unit.counter) + written.count - 1) % 16) as u8;
+        let mut after = State { phase: STARTED, taken: state.taken + written.count as u64, ..state };
+        after.last = (u64::from(written.unit.counter) + written.count as u64 - 1) % 16;
         let room = ENTRY * (written.count + 1) + rng.below(ENTRY);
         self.log.set(&self.filling[..room], rng.next() as u8);
         for nth in 0..written.count {
             for event in written.events(state.phase, nth) {
-                self.log.expect(after.place, &event.entry(state.taken + nth as u32));
+                self.log.expect(after.place, &event.entry(state.taken as u32 + nth as u32));
                 after.place += ENTRY;
             }
         }
         let part = 0..written.count * SIZE;
         let call = Call { state, packets: written.packets, part, log: &mut self.log, room };
-        call.compare(host_machine::run, &mut self.run, 0, after);
+        call.run(&mut self.runs, Ok(Ran { packets: written.count, ended: 0 }), after);
     }
 
-    pub fn into_tallies(self) -> [Tally; 5] {
-        [self.packets, self.fields, self.payload, self.events, self.run]
+    pub fn into_tallies(self) -> [Tally; 6] {
+        let [run, packets_of_run] = self.runs.into_tallies();
+        [self.packets, self.fields, self.payload, self.events, run, packets_of_run]
     }
 }
 
