@@ -44,7 +44,7 @@ impl Cases {
                 of(&contents::READINGS).and_row(&contents::ROW),
             ],
             readers: stream::Walk::new(),
-            events: machine_stream::Walk::new(PACKETS, [&[]; 3]),
+            events: machine_stream::Walk::new(PACKETS, [&[]; 4]),
             gathered: gather_stream::Walk::new(PACKETS, [&[]; 3]),
             steps: machine::Cases::new(Rng::new(1)),
             entries: machine::Entries::new(),
@@ -77,7 +77,7 @@ impl Cases {
 
     /// Whole packets of one stream, through the machine and the store. They are given their sync bytes: the walk takes some away.
     fn stream(&mut self, mut input: Input, mut rng: Rng) {
-        let first = State { taken: input.word(), ..State::FIRST };
+        let first = State { taken: input.word().into(), ..State::FIRST };
         let mut packets = input.rest(PACKETS * SIZE).to_vec();
         packets.truncate(packets.len() / SIZE * SIZE);
         packets.iter_mut().step_by(SIZE).for_each(|byte| *byte = Packet::SYNC_BYTE);
@@ -91,17 +91,17 @@ impl Cases {
         self.readings[module].compare(input.rest(LONGEST), rng.next() as u8);
     }
 
-    /// One packet in any state, with a log of any length.
+    /// One packet with any row for a state and a log of any length, by a step and by a run.
     fn step(&mut self, mut input: Input, rng: Rng) {
-        let (phase, last, taken) = (input.byte(), input.byte(), input.word());
-        let (place, room) = (input.long() as usize, usize::from(input.byte()) % (machine::LONGEST_LOG + 1));
+        let (phase, last, taken, place) = (input.long(), input.long(), input.long(), input.long() as usize);
+        let room = usize::from(input.byte()) % (machine::LONGEST_LOG + 1);
         self.steps.rng = rng;
-        self.steps.step(State { phase, last, taken, place }, input.rest(machine::LONGEST_PACKET), room);
+        self.steps.take(State { phase, last, taken, place }, input.rest(machine::LONGEST_PACKET), room);
     }
 
-    /// One event in any state, with a store of any length.
+    /// One event with any row for a state and a store of any length.
     fn gather(&mut self, mut input: Input, rng: Rng) {
-        let state = Gathering { opened: input.byte(), count: input.long() as usize, lies: input.byte() };
+        let state = Gathering { opened: input.long(), count: input.long() as usize, lies: input.long() };
         let [kind, place, length] = [input.byte(), input.byte(), input.byte()].map(u64::from);
         let room = usize::from(input.short()) % (gather::LARGEST + 1);
         self.gathers.rng = rng;

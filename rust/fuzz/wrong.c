@@ -21,12 +21,12 @@ uint32_t __wrap_cmv_pes_contents_pts_dts(const uint8_t *buf, size_t buf_len, uin
 #ifdef WRONG_cmv_machine_run
 WRONG(cmv_machine_run);
 
-/* A lent byte that changes on a refusal: where an end and a begin, two entries, do not fit, the log's next byte. */
-uint32_t __wrap_cmv_machine_run(uint8_t *phase, uint8_t *last, uint32_t *taken, size_t *place, const uint8_t *bytes, size_t bytes_len,
-    uint8_t *log, size_t log_len) {
-    uint32_t word = __real_cmv_machine_run(phase, last, taken, place, bytes, bytes_len, log, log_len);
-    if (word == 15 && *phase == 1 && log_len - *place >= 8)
-        log[*place] ^= 1;
+/* A lent byte that changes and is not to: where an end and a begin, two entries, do not fit, the log's next byte. */
+uint32_t __wrap_cmv_machine_run(uint64_t state[4], const uint8_t *bytes, size_t bytes_len, uint8_t *log, size_t log_len, uint64_t *taken,
+    uint64_t *ended) {
+    uint32_t word = __real_cmv_machine_run(state, bytes, bytes_len, log, log_len, taken, ended);
+    if (word == 0 && *ended == 15 && state[0] == 1 && log_len - state[3] >= 8)
+        log[state[3]] ^= 1;
     return word;
 }
 #endif
@@ -35,11 +35,11 @@ uint32_t __wrap_cmv_machine_run(uint8_t *phase, uint8_t *last, uint32_t *taken, 
 WRONG(cmv_gather);
 
 /* A crash: a continuation that fills the store to its last byte, behind bytes that lie in the packet. */
-uint32_t __wrap_cmv_gather(uint8_t *opened, size_t *count, uint8_t *lies, const uint8_t *packet, size_t packet_len, uint8_t kind,
-    uint8_t place, uint8_t length, uint8_t *store, size_t store_len) {
-    uint8_t lay = *lies;
-    uint32_t word = __real_cmv_gather(opened, count, lies, packet, packet_len, kind, place, length, store, store_len);
-    if (word == 0 && kind == 3 && lay != 255 && length > 0 && *count == store_len)
+uint32_t __wrap_cmv_gather(uint64_t state[3], const uint8_t *packet, size_t packet_len, uint8_t kind, uint8_t place, uint8_t length,
+    uint8_t *store, size_t store_len) {
+    uint64_t lay = state[2];
+    uint32_t word = __real_cmv_gather(state, packet, packet_len, kind, place, length, store, store_len);
+    if (word == 0 && kind == 3 && lay != 255 && length > 0 && state[1] == store_len)
         *(volatile uint8_t *)1 = 0;
     return word;
 }

@@ -10,14 +10,14 @@ const BLOCK: usize = 65_536;
 
 pub fn list() -> io::Result<()> {
     let mut machine = Machine::new(Lines(BufWriter::new(io::stdout().lock())));
-    machine.taker().line(format_args!("packet event place length"));
+    machine.taker_mut().line(format_args!("packet event place length"));
     let word = take_all(&mut machine)?;
     let taken = machine.taken();
     match word {
-        0 => machine.taker().line(format_args!("packets {taken}")),
-        word => machine.taker().line(format_args!("{taken} refused {word}")),
+        0 => machine.taker_mut().line(format_args!("packets {taken}")),
+        word => machine.taker_mut().line(format_args!("{taken} refused {word}")),
     }
-    machine.taker().0.flush()
+    machine.taker_mut().0.flush()
 }
 
 /// Takes the packets of standard input, up to one that is refused. What is left of a block for the next is moved to its start.

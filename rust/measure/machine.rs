@@ -40,7 +40,11 @@ impl<T: Takes> Machine<T> {
         self.context.taken
     }
 
-    pub fn taker(&mut self) -> &mut T {
+    pub fn taker(&self) -> &T {
+        &self.context.taker
+    }
+
+    pub fn taker_mut(&mut self) -> &mut T {
         &mut self.context.taker
     }
 }

@@ -6,7 +6,7 @@
 //!     measure list                       lists the events of standard input, by the Rust
 //!
 //! ROW is a number from 0. SIDE is `library`, `rust` or `none`, at which nothing is done: what the loop itself costs. The sum is over all
-//! answers and has to be the same for the first two. Each FILE is a recording, with a row of its own.
+//! answers and has to be the same for the first two. Each FILE is a recording, with rows of its own.
 
 // Rust's own start-up reads /proc/self/maps, at which the toolchain's emulator crashes: `main` is C's.
 #![no_main]
@@ -60,7 +60,7 @@ const FUNCTIONS: [Function; 6] = [
 
 fn rows(files: &[String]) -> Vec<Row> {
     let functions = FUNCTIONS.into_iter().flat_map(Function::rows);
-    let recordings = files.iter().map(|file| recording::row(file));
+    let recordings = files.iter().flat_map(|file| recording::rows(file));
     functions.chain(recordings).chain([writer::row(), gathering::row()]).collect()
 }
 

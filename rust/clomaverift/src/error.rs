@@ -14,7 +14,8 @@ use std::fmt;
 /// ```
 #[derive(Clone, Copy, Debug, PartialEq, Eq, Hash)]
 pub enum Error {
-    /// 1: a packet of other than 188 bytes, a timestamp of under 5, a clock reference of under 6, an empty adaptation field.
+    /// 1: a packet of other than 188 bytes, a run over other than whole packets, a timestamp of under 5 bytes, a clock reference of
+    /// under 6, an empty adaptation field.
     WrongLength,
     /// 2: the first byte of a packet is not 47 hex.
     NoSync,
