@@ -278,7 +278,7 @@ impl Cases {
     /// In every position of a row numbers that stand for something and numbers that stand for nothing, of which some have lower bits
     /// that do; each row with every fault of a packet, as 1 and 2 come before 14.
     fn every_row(&mut self) {
-        let [_, packet, _] = by_events();
+        let [_, packet, ..] = by_events();
         for packet in every_packet_fault(&packet) {
             for (phase, last) in PHASES.into_iter().flat_map(|phase| COUNTERS.map(|last| (phase, last))) {
                 for (taken, place) in TAKEN.into_iter().flat_map(|taken| PLACES.map(|place| (taken, place))) {
@@ -291,14 +291,14 @@ impl Cases {
     /// Every number for a phase with every number for a counter; and of each ground for a refusal several, with the others and
     /// without: the numbers have an order.
     fn every_refusal(&mut self) {
-        let [none, one, two] = by_events();
+        let packets = by_events();
         for (phase, last) in (0..=255).flat_map(|phase| (0..=255).map(move |last| (phase, last))) {
-            self.take(State { phase, last, taken: 0, place: 0 }, &one, 2 * ENTRY);
+            self.take(State { phase, last, taken: 0, place: 0 }, &packets[1], 2 * ENTRY);
         }
         for taken in [0, MOST_TAKEN - 1, MOST_TAKEN] {
             for (phase, last) in [(BEGIN, NONE), (STARTED, 15), (STARTED, NONE), (IGNORE_REST, 16), (3, 0), (255, 255)]
             {
-                for packet in [none, one, two].iter().flat_map(every_packet_fault) {
+                for packet in packets.iter().flat_map(every_packet_fault) {
                     self.every_log(State { phase, last, taken, place: 0 }, packet.as_slice());
                 }
             }
@@ -382,12 +382,13 @@ pub fn payload_at(packet: &[u8]) -> usize {
     }
 }
 
-/// Packets with no event, with one and with two, in a state with no last counter or with 15.
-fn by_events() -> [[u8; SIZE]; 3] {
+/// Packets with no event, with one and with two, and one that goes on with a unit, in a state with no last counter or with 15.
+fn by_events() -> [[u8; SIZE]; 4] {
     [
         packet([0x00, 0x00, 0x0f, 0xff], NO_HEAD),
         packet([0x40, 0x00, 0x10, 0xff], NO_HEAD),
         packet([0x40, 0x00, 0x10, 0xff], HEAD),
+        packet([0x00, 0x00, 0x10, 0xff], NO_HEAD),
     ]
 }
 
