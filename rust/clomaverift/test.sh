@@ -1,6 +1,7 @@
 #!/usr/bin/env bash
 # rust/clomaverift/test.sh : builds the crate over the archives of target/staticlib, by rustc alone, and runs its tests: those of its
-# modules, of tests/, of its documentation, and the examples on the sample stream. An archive that is not there is built first.
+# modules, of tests/, of its documentation, and the examples on the sample stream. An archive that is not there is built first. On a
+# machine other than x86-64 the tests run under Debian's qemu-user; where it is not installed they are built alone.
 set -euo pipefail
 # shellcheck source-path=SCRIPTDIR source=../../tools/common.sh
 . "$(dirname "$0")/../../tools/common.sh"
@@ -11,8 +12,15 @@ rustc=$(find_rustc)
 libraries=(-L "native=$target/staticlib" "${parts[@]/#/-lstatic=}")
 crate=(--extern "clomaverift=$out/libclomaverift.rlib")
 flags=(--target "$triple" --edition 2021 -D warnings)
+# What runs a program, and the same for rustdoc. Rust's own start-up does not run under the toolchain's emulator, and a test has no other.
+runner=()
+doc_runner=()
 mapfile -t tests < <(basename -s .rs "$here"/tests/*.rs)
-on_x86 || flags+=(-C linker=x86_64-linux-gnu-gcc)
+if ! on_x86; then
+    flags+=(-C linker=x86_64-linux-gnu-gcc)
+    runner=(qemu-x86_64 -L /)
+    doc_runner=(--test-runtool qemu-x86_64 --test-runtool-arg -L --test-runtool-arg /)
+fi
 
 build() { # FILE PROGRAM RUSTC-WORDS..
     CARGO_MANIFEST_DIR=$here "$rustc" "${flags[@]}" -o "$out/$2" "${@:3}" "$here/$1" || fail "$1 cannot be built"
@@ -32,20 +40,21 @@ build_all() {
 
 # Runs the tests of a program; what it says is shown where one fails.
 run_tests() { # PROGRAM
-    "$out/$1" --quiet >"$out/said" 2>&1 || { cat "$out/said" && fail "a test of $1 failed"; }
+    "${runner[@]}" "$out/$1" --quiet >"$out/said" 2>&1 || { cat "$out/said" && fail "a test of $1 failed"; }
     echo "$1: $(grep '^test result' "$out/said")"
 }
 
 run_examples_of_documentation() {
-    "$(dirname "$rustc")/rustdoc" --test --edition 2021 --crate-name clomaverift "${crate[@]}" "$here/src/lib.rs" >"$out/said" 2>&1 ||
+    "$(dirname "$rustc")/rustdoc" --test "${flags[@]}" "${doc_runner[@]}" --crate-name clomaverift "${crate[@]}" "$here/src/lib.rs" \
+        >"$out/said" 2>&1 ||
         { cat "$out/said" && fail "an example of the documentation failed"; }
     echo "documentation: $(grep '^test result' "$out/said")"
 }
 
 run_examples() {
     local bytes
-    "$out/times" "$top/samples/sample.ts" 2>/dev/null | diff "$here/examples/times.txt" - || fail "the example times prints something else"
-    bytes=$("$out/payload" "$top/samples/sample.ts" 256 2>/dev/null | wc -c)
+    "${runner[@]}" "$out/times" "$top/samples/sample.ts" 2>/dev/null | diff "$here/examples/times.txt" - || fail "the example times prints something else"
+    bytes=$("${runner[@]}" "$out/payload" "$top/samples/sample.ts" 256 2>/dev/null | wc -c)
     [ "$bytes" -eq 7600 ] || fail "the example payload writes $bytes bytes" # four units: tools/sample says how long each is
     echo "examples: as stored"
 }
@@ -53,8 +62,10 @@ run_examples() {
 need_library
 mkdir -p "$out"
 build_all
-# Rust's own start-up does not run under the toolchain's emulator, and a test has no other.
-on_x86 || { echo "the tests of rust/clomaverift are built, and not run on this machine" && exit 0; }
+if ! on_x86 && ! type -P qemu-x86_64 >/dev/null; then
+    echo "the tests of rust/clomaverift are built, and not run on this machine: qemu-user is not installed"
+    exit 0
+fi
 for name in modules "${tests[@]}"; do
     run_tests "$name"
 done
