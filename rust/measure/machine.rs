@@ -27,11 +27,21 @@ impl<T: Takes> Machine<T> {
     #[inline(always)]
     pub fn run(&mut self, bytes: &[u8]) -> u32 {
         for bytes in bytes.chunks_exact(Packet::SIZE) {
-            let Some(packet) = Packet::try_new(bytes) else { return 2 };
-            self.context.packet = bytes.as_ptr() as usize;
-            self.filter.consume(&mut self.context, &packet);
-            self.context.taken += 1;
+            let word = self.step(bytes);
+            if word != 0 {
+                return word;
+            }
         }
+        0
+    }
+
+    /// Takes a packet of 188 bytes: 0, or 2 where it has no sync byte.
+    #[inline(always)]
+    pub fn step(&mut self, bytes: &[u8]) -> u32 {
+        let Some(packet) = Packet::try_new(bytes) else { return 2 };
+        self.context.packet = bytes.as_ptr() as usize;
+        self.filter.consume(&mut self.context, &packet);
+        self.context.taken += 1;
         0
     }
 

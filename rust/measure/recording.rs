@@ -8,6 +8,7 @@ use crate::pids::by_pid;
 use crate::row::{Row, Side, Work};
 use mpeg2ts_reader::packet::Packet;
 use std::hint::black_box;
+use std::ops::DerefMut;
 use std::{fs, mem};
 
 /// How many packets are taken, about: the recording is gone through more than once.
@@ -28,16 +29,17 @@ fn short(file: &str) -> &str {
     file.rmatch_indices('/').nth(1).map_or(file, |(at, _)| &file[at + 1..])
 }
 
-/// How the library goes over packets: with this entry, for all of them or for each.
+/// How both sides go over packets: with one call for all of them, or with one for each.
 #[derive(Clone, Copy)]
 struct Advances {
     library: Advance,
+    rust: Advance,
     each: bool,
 }
 
 impl Advances {
-    const RUNS: Advances = Advances { library: run, each: false };
-    const STEPS: Advances = Advances { library: step, each: true };
+    const RUNS: Advances = Advances { library: run, rust: rust_run, each: false };
+    const STEPS: Advances = Advances { library: step, rust: rust_step, each: true };
 }
 
 /// Takes packets: what was refused, or 0.
@@ -52,10 +54,10 @@ struct Recording {
     word: u32,
 }
 
-/// What each side keeps: the library its state, the Rust its machine. The log, which is in the machine, is both sides'.
+/// What each side keeps between calls: the library its state, the Rust its machine. The log, which is in the machine, is both sides'.
 struct Sides {
     state: State,
-    machine: Machine<Entries>,
+    machine: Machine<Entries<Vec<u8>>>,
 }
 
 impl Recording {
@@ -75,7 +77,7 @@ impl Work for Recording {
 
     /// The same loop for every side: the call goes through a pointer that the compiler does not know.
     fn run(&mut self, side: Side) {
-        let advance: Advance = black_box(side.choose(self.advances.library, rust, |_, _| 0));
+        let advance: Advance = black_box(side.choose(self.advances.library, self.advances.rust, |_, _| 0));
         let size = if self.advances.each { Packet::SIZE } else { self.packets.len() };
         for _ in 0..self.rounds {
             self.sides.begin();
@@ -113,17 +115,26 @@ fn step(sides: &mut Sides, packet: &mut [u8]) -> u32 {
     host_machine::step(&mut sides.state, packet, &mut sides.machine.taker_mut().log)
 }
 
-fn rust(sides: &mut Sides, packets: &mut [u8]) -> u32 {
-    sides.machine.run(packets)
+/// With a machine of its own, which the compiler can keep in registers: as the library does with its state.
+fn rust_run(sides: &mut Sides, packets: &mut [u8]) -> u32 {
+    let mut machine = Machine::new(Entries { log: &mut sides.machine.taker_mut().log[..], place: 0 });
+    let word = machine.run(packets);
+    sides.state.taken = machine.taken().into();
+    sides.state.place = machine.taker().place;
+    word
+}
+
+fn rust_step(sides: &mut Sides, packet: &mut [u8]) -> u32 {
+    sides.machine.step(packet)
 }
 
 /// Writes each event as an entry of a log.
-struct Entries {
-    log: Vec<u8>,
+struct Entries<L> {
+    log: L,
     place: usize,
 }
 
-impl Takes for Entries {
+impl<L: DerefMut<Target = [u8]>> Takes for Entries<L> {
     #[inline(always)]
     fn take(&mut self, index: u32, event: Event) {
         self.log[self.place..][..ENTRY].copy_from_slice(&event.entry(index));
