@@ -71,8 +71,8 @@ impl Machine {
     }
 
     /// Takes a packet, and writes its events to the log. The order of refusals: [`Error::WrongLength`], [`Error::NoSync`],
-    /// [`Error::OutOfRange`] for a place that the log does not have, [`Error::IndexFull`], [`Error::LogFull`]. A refused packet
-    /// changes neither the machine nor the log.
+    /// [`Error::OutOfRange`] for a place that is not a multiple of 8 within the log, [`Error::IndexFull`], [`Error::LogFull`]. A refused
+    /// packet changes neither the machine nor the log.
     pub fn step(&mut self, packet: &[u8], log: &mut [u8]) -> Result<(), Error> {
         ffi::machine_step(&mut self.row, packet, log)
     }
