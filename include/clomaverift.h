@@ -22,7 +22,7 @@ extern "C" {
 
 enum {
     CMV_DONE = 0, /* accepted */
-    CMV_WRONG_LENGTH = 1, /* packet not 188 bytes; timestamp under 5; clock reference under 6; adaptation field empty */
+    CMV_WRONG_LENGTH = 1, /* packet not 188 bytes, or bytes of a run not a multiple of 188; timestamp under 5; clock reference under 6; adaptation field empty */
     CMV_NO_SYNC = 2, /* first byte not 47 hex */
     CMV_SHORT_HEADER = 3, /* PES bytes under 6 */
     CMV_BAD_START_CODE = 4, /* first three bytes not 00 00 01 */

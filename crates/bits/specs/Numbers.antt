@@ -5,7 +5,7 @@ use Prim.Native.Nat.{ℕ}
 abbrev pub done : ℕ
 done = 0
 
--- packet not 188 bytes; timestamp under 5; clock reference under 6; adaptation field empty
+-- packet not 188 bytes, or bytes of a run not a multiple of 188; timestamp under 5; clock reference under 6; adaptation field empty
 abbrev pub wrongLength : ℕ
 wrongLength = 1
 
