@@ -13,7 +13,7 @@ use Rattle.bits.specs.Numbers.{done}
 use Rattle.bits.proofs.Fields.{in-byte}
 use Rattle.control.specs.Control.{scrambling}
 use Rattle.packet.specs.Packet.{contentAt}
-use Rattle.packet.proofs.Laws.{sound-is}
+use Rattle.packet.proofs.Laws.{packet-is}
 use Rattle.pes.specs.Stream.{readId}
 use Rattle.machine.specs.Events.{startFlag}
 use Rattle.writer.specs.declared.Unit.{Unit}
@@ -36,19 +36,20 @@ module _ (b : Bool) (id c : ℕ) (xs : List ℕ) (low : 1 ≤ length xs) (high :
   unfolding startFlag scrambling
   read-made =
       let w = is-packet (truth b) id c xs high in
+      let r = packet-is made (w .0) (w .1) in
       let z = rest-clear (truth b) id c xs in
       let q = content-back (truth b) id c xs high in
       let n : 188 - contentAt made ≡ length xs = omega (arith, q) in
       record {
-        is-packet = sound-is made _ w;
-        no-error = sound-is made _ w ∙ simp (z .0);
-        starts = sound-is made _ w ∙ ap (λ (t : Bool). answer done (truth t ∷ [])) (start-back (truth b) id c xs b refl);
-        no-priority = sound-is made _ w ∙ simp (z .1);
-        has-pid = sound-is made _ w ∙ ap (λ (v : ℕ). answer done (v ∷ [])) (pid-back (truth b) id c xs pid-fits);
+        is-packet = r _;
+        no-error = r _ ∙ simp (z .0);
+        starts = r _ ∙ ap (λ (t : Bool). answer done (truth t ∷ [])) (start-back (truth b) id c xs b refl);
+        no-priority = r _ ∙ simp (z .1);
+        has-pid = r _ ∙ ap (λ (v : ℕ). answer done (v ∷ [])) (pid-back (truth b) id c xs pid-fits);
         not-scrambled = omega (arith, z .2, in-byte made 3 0 2 6 refl, in-byte (getD made 3 0 ∷ []) 0 0 2 6 refl);
-        has-counter = sound-is made _ w ∙ ap (λ (v : ℕ). answer done (v ∷ [])) (counter-back (truth b) id c xs fits);
+        has-counter = r _ ∙ ap (λ (v : ℕ). answer done (v ∷ [])) (counter-back (truth b) id c xs fits);
         has-field = field-back (truth b) id c xs high low;
-        has-payload = sound-is made _ w ∙ simp (payload-back (truth b) id c xs high low) (ap₂ (λ (p k : ℕ). answer done (p ∷ k ∷ [])) q n);
+        has-payload = r _ ∙ simp (payload-back (truth b) id c xs high low) (ap₂ (λ (p k : ℕ). answer done (p ∷ k ∷ [])) q n);
       }
 
 pub read-carried : (k : ℕ) (b : Bool) (id c : ℕ) (xs : List ℕ) → id < 2 ^ 13 → c ≤ 15 → Takes k xs

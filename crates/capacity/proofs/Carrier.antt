@@ -16,7 +16,7 @@ use Rattle.bits.proofs.Fields.{field-one, field-right, byte-field, truth-bit}
 use Rattle.bits.proofs.Packs.{length-bytesOf, RowIn, RowFits, row-front}
 use Rattle.packet.specs.Packet.{pidField, counterField, adaptationFlag, payloadFlag, adaptationLength, adaptationThere, readAdaptation}
 use Rattle.packet.specs.Packet.{contentAt, payloadThere}
-use Rattle.packet.proofs.Laws.{sound-is}
+use Rattle.packet.proofs.Laws.{packet-is}
 use Rattle.machine.specs.Events.{startFlag}
 use Rattle.writer.specs.Packets.{packetTable, stuffing, carrier}
 use Rattle.writer.proofs.Laws.{stuffing-length}
@@ -120,7 +120,7 @@ module _ (start id c : ℕ) (xs : List ℕ) where
     -- with n bytes of payload the adaptation field has a length byte, and bytes where n is below 183
     pub field-back : 1 ≤ length xs → readAdaptation made ≡ pick (ltb (length xs) 183) (answer 0 (5 ∷ (183 - length xs) ∷ [])) (answer 9 [])
     unfolding adaptationThere
-    field-back low = sound-is made _ is-packet ∙ go (ltb (length xs) 184) (ltb (length xs) 183) refl refl
+    field-back low = packet-is made (is-packet .0) (is-packet .1) _ ∙ go (ltb (length xs) 184) (ltb (length xs) 183) refl refl
       where
         go : (a b : Bool) → ltb (length xs) 184 ≡ a → ltb (length xs) 183 ≡ b
             → pick (adaptationThere made) (answer 0 (5 ∷ adaptationLength made ∷ [])) (answer 9 [])

@@ -9,9 +9,9 @@ use lib.ListN.{length, replicate}
 use Rattle.bits.specs.Answer.{partOf}
 use Rattle.bits.specs.Field.{bit, field}
 use Rattle.pes.specs.Stream.{parsedId}
-use Rattle.pes.specs.Head.{headed, idOf}
+use Rattle.pes.specs.Head.{notHead, idOf}
 use Rattle.packet.specs.Packet.{payloadFlag, adaptationFlag, contentAt, payloadThere}
-use Rattle.contents.specs.Contents.{guarded, flagged, readPtsDts, dataLength, timesSize, escrAt, rateAt, trickAt, copyInfoAt, crcAt}
+use Rattle.contents.specs.Contents.{notContents, flagged, readPtsDts, dataLength, timesSize, escrAt, rateAt, trickAt, copyInfoAt, crcAt}
 use Rattle.contents.specs.Contents.{fieldsEnd, payloadAt}
 use Rattle.log.specs.declared.Event.{Event}
 use Rattle.log.specs.Entry.{event, beginPacket}
@@ -100,7 +100,7 @@ abbrev begin : Event
 begin = event beginPacket 0 4 184
 
 bare-one : segments (run 0 (state Begin Nothing) (packet ∷ [])) ≡ segment begin [] ∷ []
-unfolding segments upToBegin run eventsOf begun continuous startFlag headAccepted payloadThere payloadFlag contentAt adaptationFlag headed bit field
+unfolding segments upToBegin run eventsOf begun continuous startFlag headAccepted payloadThere payloadFlag contentAt adaptationFlag notHead bit field
 bare-one = refl
 
 bare-bytes : bytesAt (packet ∷ []) begin ≡ 0 ∷ 0 ∷ 1 ∷ 0xBC ∷ 0 ∷ 0 ∷ carries
@@ -108,7 +108,7 @@ unfolding eventBytes
 bare-bytes = refl
 
 bare-fields : HasFields bare (0 ∷ 0 ∷ 1 ∷ 0xBC ∷ 0 ∷ 0 ∷ carries)
-unfolding headed idOf guarded flagged readPtsDts dataLength timesSize escrAt rateAt trickAt copyInfoAt crcAt fieldsEnd payloadAt bit field
+unfolding notHead idOf notContents flagged readPtsDts dataLength timesSize escrAt rateAt trickAt copyInfoAt crcAt fieldsEnd payloadAt bit field
 bare-fields =
     record {
       head = refl;
@@ -127,7 +127,7 @@ bare-fields =
     }
 
 bare-payload : payloadBytes (0 ∷ 0 ∷ 1 ∷ 0xBC ∷ 0 ∷ 0 ∷ carries) ++ [] ≡ carries
-unfolding payloadBytes headerPayload partOf parsedId headed idOf bit field
+unfolding payloadBytes headerPayload partOf parsedId notHead idOf bit field
 bare-payload = refl
 
 pub bare-in-one : Delivers bare carries (state Begin Nothing) (packet ∷ [])

@@ -8,7 +8,7 @@ use native.Mathlib.Omega.{arith}
 use lib.ListN.{length, take, drop, getD, length-append, length-drop}
 use lib.Seq.{drop-at, drop-drop, take-all}
 use borrow.Author.Tests.{le-ltb, eq-eqb, ne-eqb}
-use Rattle.bits.specs.Answer.{Answer, answer, truth, partOf}
+use Rattle.bits.specs.Answer.{Answer, answer, truth, unless, partOf}
 use Rattle.bits.specs.Field.{bit, field}
 use Rattle.bits.specs.Pack.{joined, bytesOf}
 use Rattle.bits.proofs.Fields.{field-one, field-split, field-left, field-drop, bit-left, bit-below, in-byte}
@@ -16,11 +16,11 @@ use Rattle.bits.proofs.Packs.{length-bytesOf, RowIn, RowFits, row-front}
 use Rattle.timestamp.specs.Stamp.{readStamp, stampValue, stampBytes}
 use Rattle.timestamp.proofs.Theorems.{read-back, stamp-length}
 use Rattle.pes.specs.Stream.{parsedId}
-use Rattle.pes.specs.Head.{headed, idOf, packetLength}
+use Rattle.pes.specs.Head.{notHead, idOf, packetLength}
 use Rattle.contents.specs.Contents.{dataLength, timesSize, escrAt, rateAt, trickAt, copyInfoAt, crcAt, fieldsEnd, payloadAt, readFixed}
 use Rattle.contents.specs.Contents.{readPtsDts, escrBase, escrExtension, readEscr, rateOf, readEsRate, readCopyInfo, readCrc, readExtension}
 use Rattle.contents.specs.Trick.{readRawTrick}
-use Rattle.contents.proofs.Laws.{Accepted, sound, field-off, field-on}
+use Rattle.contents.proofs.Laws.{Accepted, contents-is, field-off, field-on}
 use Rattle.pes_header.specs.Payload.{headerPayload, payloadBytes}
 use Rattle.writer.specs.declared.Times.{Times}
 use Rattle.writer.specs.declared.Times.the-variants.{Untimed, Pts, Both}
@@ -191,8 +191,8 @@ module _ (u : Unit) (n : ℕ) (ok : UnitFits u n) (pay : List ℕ) where
   head-row : (i : ℕ) → i < 17 → RowFits (headTable u n) i 72 → RowIn (headTable u n) i ys
   head-row i h l = rw form (row-front (headTable u n) 9 i (fieldsImage u ++ pay) refl h l)
 
-  pub headed-back : (a : Answer) → headed ys a ≡ a
-  unfolding headed
+  pub headed-back : (a : Answer) → unless (notHead ys) a ≡ a
+  unfolding notHead
   headed-back a = rw (le-ltb (length ys) 6 (omega (arith, all-length)), eq-eqb (field ys 0 24) 1 (head-row 0 (omega arith) (omega arith)))
 
   pub id-back : idOf ys ≡ u .id
@@ -323,7 +323,7 @@ module _ (u : Unit) (n : ℕ) (ok : UnitFits u n) (pay : List ℕ) where
       let b : getD c 0 0 / 64 % 4 ≡ 2 = sym (in-byte c 0 0 2 6 refl) ∙ check-back in
       let d : payloadAt c ≤ length c = omega (arith, contents-length, payload-is) in
       let e : fieldsEnd c ≤ payloadAt c = omega (arith, payload-is, end-is) in
-      record { fixed = a; header = d; fields = e; is = λ x. sound c x (a, b, d, e) }
+      record { fixed = a; header = d; fields = e; is = λ x. contents-is c x (a, b, d, e) }
 
   bit-given : (o : ℕ) (b : Bool) → field c o 1 ≡ truth b → readFixed o 1 c ≡ givenBit b
   bit-given o b e = accepted-back .is _ ∙ given e

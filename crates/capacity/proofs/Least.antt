@@ -243,7 +243,7 @@ module _ (u : Unit) (xs : List ℕ) (h : HasFields u xs) where
       let q : parsedId (idOf xs) ≡ true = ap parsedId (h .id) ∙ p in
       let d = headed-done xs (answer 0 []) (ap number-of (h .head)) in
       let own = length-take (length c - payloadAt c) (drop (6 + payloadAt c) xs) in
-      simp (d .1, q, taken .is) (omega (arith, d .0, fields-room, taken .fields, taken .header, length-drop 6 xs, own))
+      simp (d .is, q, taken .is) (omega (arith, d .long, fields-room, taken .fields, taken .header, length-drop 6 xs, own))
 
 -- ---- together
 

@@ -1,7 +1,7 @@
 -- What the definitions of `specs/` come to on the bytes, in each case. The functions' proofs cite these, and so do callers'.
 -- Assumes nothing.
 use mathlib.Core.Path.{_≡_, refl, sym, ap, ap₂, _∙_}
-use mathlib.Core.Bool.{Bool, true, false}
+use mathlib.Core.Bool.{Bool, true, false, not}
 use mathlib.Core.List.{List, [], _∷_}
 use Prim.Native.Nat.{ℕ, suc, _+_, _-_, _*_, _/_, _%_, _^_, _≤_, _<_}
 use native.Mathlib.Nat.{div-one}
@@ -12,18 +12,22 @@ use denote.Enum.Declared.{tagOf}
 use lib.ListN.{length, getD, take, drop, length-drop}
 use lib.Dec.{eqb, ltb}
 use lib.Seq.{drop-cons, getD-drop}
-use borrow.Author.Tests.{lt-ltb, le-ltb, eq-eqb, ne-eqb, ltb-true, ltb-false, eqb-true, eqb-false}
-use Rattle.bits.specs.Answer.{Answer, answer, pick, truth, Within}
+use borrow.Author.Tests.{lt-ltb, le-ltb, eq-eqb, ne-eqb, ltb-false}
+use Rattle.bits.specs.Answer.{Answer, answer, pick, truth, other, unless, Within, partAt, partOf}
 use Rattle.bits.specs.Field.{bit, field, flag}
+use Rattle.bits.proofs.Checks.{Off, none-holds, first-holds, ne-other, eq-other, passed, refused-by, unless-within}
 use Rattle.bits.proofs.Fields.{in-byte, field-split, byte-field, field-below, field-left, bit-left}
-use Rattle.bits.proofs.Fields.{bit-truth, first-left}
-use Rattle.bits.proofs.Parts.{part-rest}
-use Rattle.bits.proofs.Tests.{limited-value, limited-refused}
+use Rattle.bits.proofs.Fields.{bit-truth, first-left, field-one, bitOf, Known, byte-wide}
+use borrow.Author.Needs.{needs}
+use Rattle.bits.proofs.Parts.{part-rest, part-refused, part-done}
+use Rattle.bits.proofs.Tests.{limited-in, limited-out, limited-value, limited-refused}
+use Rattle.timestamp.specs.declared.Timestamp.{Timestamp}
 use Rattle.timestamp.specs.declared.TimestampRead.{TimestampRead}
 use Rattle.timestamp.specs.Stamp.{given, readStamp}
 use Rattle.timestamp.proofs.Laws.{stamp-long}
 use Rattle.control.specs.declared.ClockMade.{ClockMade}
-use Rattle.control.specs.Clock.{givenMade, makeClock}
+use Rattle.control.specs.declared.ClockRef.{ClockRef}
+use Rattle.control.specs.Clock.{givenMade, makeClock, clockValues}
 use Rattle.control.proofs.Laws.{made}
 use Rattle.contents.specs.declared.Refusal.{Refusal}
 use Rattle.contents.specs.declared.ContentsRead.{ContentsRead}
@@ -33,7 +37,7 @@ use Rattle.contents.specs.declared.EscrRead.{EscrRead}
 use Rattle.contents.specs.declared.PartRead.{PartRead}
 use Rattle.contents.proofs.PartRead.{the-type}
 use Rattle.contents.specs.Given.{refusal, givenContents, givenStamp, givenPtsDts, givenEscr, givenPart}
-use Rattle.contents.specs.Contents.{dataLength, timesSize, escrAt, rateAt, trickAt, copyInfoAt, crcAt, fieldsEnd, payloadAt, guarded}
+use Rattle.contents.specs.Contents.{dataLength, timesSize, escrAt, rateAt, trickAt, copyInfoAt, crcAt, fieldsEnd, payloadAt, notContents}
 use Rattle.contents.specs.Contents.{flagged, readContents, readPtsDts, escrBase, escrExtension, escrAnswer, rateOf, readEscr}
 use Rattle.contents.specs.Contents.{readEsRate, readCopyInfo, readCrc, readExtension, readPayload, makeRate, rateBytes}
 use Rattle.contents.specs.Trick.{control, trickOf, trickByte, truncationBits, readTrick, readRawTrick}
@@ -64,85 +68,65 @@ pub record Accepted (c : List ℕ) : Type 0 where
   pub fixed : 3 ≤ length c
   pub header : payloadAt c ≤ length c
   pub fields : fieldsEnd c ≤ payloadAt c
-  pub is : (a : Answer) → guarded c a ≡ a
+  pub is : (a : Answer) → unless (notContents c) a ≡ a
 
 module _ (c : List ℕ) (a : Answer) where
-  pub short : length c < 3 → answer 5 [] ≡ guarded c a
-  unfolding guarded
+  pub short : length c < 3 → answer 5 [] ≡ unless (notContents c) a
+  unfolding notContents
   short h = simp (lt-ltb (length c) 3 h)
 
-  pub bad-check : (3 ≤ length c) × (getD c 0 0 / 64 % 4 ≡ 2 → ⊥) → answer 6 [] ≡ guarded c a
-  unfolding guarded
-  bad-check h = simp (le-ltb (length c) 3 (h .0), ne-eqb (field c 0 2) 2 (omega (arith, in-byte c 0 0 2 6 refl)))
+  pub bad-check : Known c → 3 ≤ length c → (getD c 0 0 / 64 ≡ 2 → ⊥) → answer 6 [] ≡ unless (notContents c) a
+  unfolding notContents
+  bad-check k h n = first-holds (notContents c) 1 (le-ltb (length c) 3 h, tt) (ne-other (field c 0 2) 2 (omega (arith, in-byte c 0 0 2 6 refl, k 0))) a
 
-  pub past-buffer : (3 ≤ length c) × (getD c 0 0 / 64 % 4 ≡ 2) × (length c < payloadAt c) → answer 7 [] ≡ guarded c a
-  unfolding guarded
-  past-buffer h = simp (le-ltb (length c) 3 (h .0), eq-eqb (field c 0 2) 2 (in-byte c 0 0 2 6 refl ∙ h .1), lt-ltb (length c) (payloadAt c) (h .2))
+  module _ (p : ℕ) (e : p ≡ payloadAt c) (h : 3 ≤ length c) (n : getD c 0 0 / 64 ≡ 2) where
+    check : other (field c 0 2) 2 ≡ false
+    check = eq-other (field c 0 2) 2 (omega (arith, in-byte c 0 0 2 6 refl))
 
-  pub past-header : (3 ≤ length c) × (getD c 0 0 / 64 % 4 ≡ 2) × (payloadAt c ≤ length c) × (payloadAt c < fieldsEnd c) → answer 8 [] ≡ guarded c a
-  unfolding guarded
-  past-header h =
-      simp (le-ltb (length c) 3 (h .0), eq-eqb (field c 0 2) 2 (in-byte c 0 0 2 6 refl ∙ h .1), le-ltb (length c) (payloadAt c) (h .2), lt-ltb (payloadAt c) (fieldsEnd c) (h .3))
+    pub past-buffer : length c < p → answer 7 [] ≡ unless (notContents c) a
+    unfolding notContents
+    past-buffer l = first-holds (notContents c) 2 (le-ltb (length c) 3 h, (check, tt)) (lt-ltb (length c) (payloadAt c) (omega arith)) a
 
-  pub sound : (3 ≤ length c) × (getD c 0 0 / 64 % 4 ≡ 2) × (payloadAt c ≤ length c) × (fieldsEnd c ≤ payloadAt c) → guarded c a ≡ a
-  unfolding guarded
-  sound h =
+    pub past-header : (q : ℕ) → q ≡ fieldsEnd c → p ≤ length c → p < q → answer 8 [] ≡ unless (notContents c) a
+    unfolding notContents
+    past-header q f l m =
+        first-holds (notContents c) 3 (le-ltb (length c) 3 h, (check, (le-ltb (length c) (payloadAt c) (omega arith), tt))) (lt-ltb (payloadAt c) (fieldsEnd c) (omega arith)) a
+
+  pub contents-is : (3 ≤ length c) × (getD c 0 0 / 64 % 4 ≡ 2) × (payloadAt c ≤ length c) × (fieldsEnd c ≤ payloadAt c) → unless (notContents c) a ≡ a
+  unfolding notContents
+  contents-is h =
       simp (le-ltb (length c) 3 (h .0), eq-eqb (field c 0 2) 2 (in-byte c 0 0 2 6 refl ∙ h .1), le-ltb (length c) (payloadAt c) (h .2), le-ltb (payloadAt c) (fieldsEnd c) (h .3))
 
--- contents are accepted, or refused by one number whatever is read of them
-data Verdict (c : List ℕ) : Type 0 where
-  passed : Accepted c → Verdict c
-  barred : (r : Refusal) → ((a : Answer) → refusal r ≡ guarded c a) → Verdict c
-
-verdict : (c : List ℕ) → Verdict c
-verdict c = go (ltb (length c) 3) refl (eqb (getD c 0 0 / 64 % 4) 2) refl (ltb (length c) (payloadAt c)) refl (ltb (payloadAt c) (fieldsEnd c)) refl
-  where
-    go : (s : Bool) → ltb (length c) 3 ≡ s → (k : Bool) → eqb (getD c 0 0 / 64 % 4) 2 ≡ k
-        → (p : Bool) → ltb (length c) (payloadAt c) ≡ p → (f : Bool) → ltb (payloadAt c) (fieldsEnd c) ≡ f → Verdict c
-    go true e k g p i f j = barred Refusal.ShortContents (λ a. short c a (ltb-true _ _ e))
-    go false e false g p i f j = barred Refusal.BadCheckBits (λ a. bad-check c a (ltb-false _ _ e, eqb-false _ _ g))
-    go false e true g true i f j = barred Refusal.HeaderPastBuffer (λ a. past-buffer c a (ltb-false _ _ e, eqb-true _ _ g, ltb-true _ _ i))
-    go false e true g false i true j =
-        barred Refusal.FieldsPastHeader (λ a. past-header c a (ltb-false _ _ e, eqb-true _ _ g, ltb-false _ _ i, ltb-true _ _ j))
-    go false e true g false i false j =
-        passed (record {
-          fixed = ltb-false _ _ e;
-          header = ltb-false _ _ i;
-          fields = ltb-false _ _ j;
-          is = λ a. sound c a (ltb-false _ _ e, eqb-true _ _ g, ltb-false _ _ i, ltb-false _ _ j);
-        })
-
 -- no refusal has the number of an accepted answer
-not-done : (r : Refusal) → refusal r .number ≡ 0 → ⊥
-not-done Refusal.ShortContents z = omega arith
-not-done Refusal.BadCheckBits z = omega arith
-not-done Refusal.HeaderPastBuffer z = omega arith
-not-done Refusal.FieldsPastHeader z = omega arith
+not-done : (r : Refusal) → 0 < refusal r .number
+not-done Refusal.ShortContents = omega arith
+not-done Refusal.BadCheckBits = omega arith
+not-done Refusal.HeaderPastBuffer = omega arith
+not-done Refusal.FieldsPastHeader = omega arith
+
+passes : (c : List ℕ) → Off (notContents c) → Accepted c
+unfolding notContents
+passes c o = record {
+  fixed = ltb-false (length c) 3 (o .0);
+  header = ltb-false (length c) (payloadAt c) (o .1 .1 .0);
+  fields = ltb-false (payloadAt c) (fieldsEnd c) (o .1 .1 .1 .0);
+  is = none-holds (notContents c) o;
+}
 
 -- so the number of `from_bytes` settles every reader's
 pub accepted-by : (c : List ℕ) → readContents c .number ≡ 0 → Accepted c
-accepted-by c z = go (verdict c)
-  where
-    go : Verdict c → Accepted c
-    go (passed h) = h
-    go (barred k b) = absurd (not-done k (ap (λ (a : Answer). a .number) (b (answer 0 [])) ∙ z))
+unfolding notContents
+accepted-by c z = passes c (passed (notContents c) (answer 0 []) (omega arith) z)
 
 -- and its answer, as that reader tests it, by the variant
 pub accepted : (c : List ℕ) (r : ContentsRead) → r ≡ ContentsRead.Done → givenContents r ≡ readContents c → Accepted c
 accepted c r e g = accepted-by c (ap (λ (a : Answer). a .number) (sym g ∙ ap givenContents e))
 
-pub refused : (c : List ℕ) (r : ContentsRead) (k : Refusal) → r ≡ ContentsRead.Refused k → givenContents r ≡ readContents c → (a : Answer) → refusal k ≡ guarded c a
-refused c r k e g a = go (verdict c)
-  where
-    f : refusal k ≡ readContents c
-    f = sym (ap givenContents e) ∙ g
-
-    go : Verdict c → refusal k ≡ guarded c a
-    go (passed h) = absurd (not-done k (ap (λ (a : Answer). a .number) (f ∙ h .is (answer 0 []))))
-    go (barred j b) = f ∙ (sym (b (answer 0 [])) ∙ b a)
+pub refused : (c : List ℕ) (r : ContentsRead) (k : Refusal) → r ≡ ContentsRead.Refused k → givenContents r ≡ readContents c → (a : Answer) → refusal k ≡ unless (notContents c) a
+refused c r k e g a = refused-by (notContents c) (answer 0 []) refl (refusal k) (not-done k) (sym (ap givenContents e) ∙ g) a
 
 -- a value that is always there
-pub fixed-done : {c : List ℕ} {n m : ℕ} → Accepted c → m ≡ n → answer 0 (n ∷ []) ≡ guarded c (answer 0 (m ∷ []))
+pub fixed-done : {c : List ℕ} {n m : ℕ} → Accepted c → m ≡ n → answer 0 (n ∷ []) ≡ unless (notContents c) (answer 0 (m ∷ []))
 fixed-done {c} {n} {m} h e = ap (λ (v : ℕ). answer 0 (v ∷ [])) (sym e) ∙ sym (h .is (answer 0 (m ∷ [])))
 
 -- a field that its flag says is there, or is not
@@ -163,69 +147,6 @@ module _ (c : List ℕ) (i : ℕ) (a : Answer) (h : Accepted c) where
   pub field-on : bit c i ≡ 1 → flagged i c a ≡ a
   unfolding flagged
   field-on e = h .is _ ∙ simp (eq-eqb (bit c i) 1 e)
-
--- ---- flagged fields lie within the contents
-
-module _ {c : List ℕ} (h : Accepted c) where
-  times-fit : escrAt c ≤ length c
-  unfolding fieldsEnd crcAt copyInfoAt trickAt rateAt
-  times-fit = omega arith
-
-  pub one-fits : getD c 1 0 / 64 ≡ 2 → 8 ≤ length c
-  one-fits f = omega (arith, times-one c f, times-fit)
-
-  pub two-fit : getD c 1 0 / 64 ≡ 3 → 13 ≤ length c
-  two-fit f = omega (arith, times-two c f, times-fit)
-
-  pub escr-fits : (getD c 1 0 / 32 % 2 ≡ 0 → ⊥) → escrAt c + 6 ≤ length c
-  unfolding fieldsEnd crcAt copyInfoAt trickAt rateAt bit
-  escr-fits f = omega arith
-
-  pub rate-fits : (getD c 1 0 / 16 % 2 ≡ 0 → ⊥) → rateAt c + 3 ≤ length c
-  unfolding fieldsEnd crcAt copyInfoAt trickAt bit
-  rate-fits f = omega arith
-
-  pub trick-fits : (getD c 1 0 / 8 % 2 ≡ 0 → ⊥) → trickAt c + 1 ≤ length c
-  unfolding fieldsEnd crcAt copyInfoAt bit
-  trick-fits f = omega arith
-
-  pub copy-info-fits : (getD c 1 0 / 4 % 2 ≡ 0 → ⊥) → copyInfoAt c + 1 ≤ length c
-  unfolding fieldsEnd crcAt bit
-  copy-info-fits f = omega arith
-
-  pub crc-fits : (getD c 1 0 / 2 % 2 ≡ 0 → ⊥) → crcAt c + 2 ≤ length c
-  unfolding fieldsEnd bit
-  crc-fits f = omega arith
-
-  -- ---- timestamps
-
-  pub times-absent : getD c 1 0 / 64 ≡ 0 → answer 9 [] ≡ readPtsDts c
-  unfolding readPtsDts bit
-  times-absent f = sym (h .is _ ∙ simp (ne-eqb (bit c 8) 1 (omega arith), ne-eqb (bit c 9) 1 (omega arith)))
-
-  pub times-invalid : getD c 1 0 / 64 ≡ 1 → answer 10 [] ≡ readPtsDts c
-  unfolding readPtsDts bit
-  times-invalid f = sym (h .is _ ∙ simp (ne-eqb (bit c 8) 1 (omega arith), eq-eqb (bit c 9) 1 (omega arith)))
-
-  pub pts-alone : (p : StampRead) → getD c 1 0 / 64 ≡ 2 → givenStamp p ≡ readStamp (drop 3 c) → givenPtsDts (PtsDts.PtsOnly p) ≡ readPtsDts c
-  unfolding readPtsDts bit
-  pts-alone p f e =
-      sym (h .is _ ∙ simp (eq-eqb (bit c 8) 1 (omega arith), ne-eqb (bit c 9) 1 (omega arith), ← e))
-
-  pub pts-and-dts : (p d : StampRead) → getD c 1 0 / 64 ≡ 3 → givenStamp p ≡ readStamp (drop 3 c) → givenStamp d ≡ readStamp (drop 8 c)
-      → givenPtsDts (PtsDts.Both p d) ≡ readPtsDts c
-  unfolding readPtsDts bit
-  pts-and-dts p d f e g =
-      sym (h .is _ ∙ simp (eq-eqb (bit c 8) 1 (omega arith), eq-eqb (bit c 9) 1 (omega arith), ← e, ← g))
-
--- a timestamp at a place: the bytes from there on are as the code takes them
-module _ (at : ℕ) (xs : List ℕ) (r s : TimestampRead) (e : r ≡ s) (g : given r ≡ readStamp (take (length xs - at) (drop at xs))) where
-  pub stamp-there : given s ≡ readStamp (drop at xs)
-  stamp-there = sym (ap given e) ∙ (g ∙ ap readStamp (part-rest at xs))
-
-  -- what timestamp's `stamp-long` says of its number
-  pub stamp-number : at + 5 ≤ length xs → given s .number % 12 ≡ 0
-  stamp-number h = stamp-long (drop at xs) (given s .number) (given s .values) stamp-there (simp length-drop (omega arith))
 
 -- ---- the clock reference
 
@@ -290,110 +211,28 @@ module _ (c : List ℕ) (at : ℕ) where
       let t : List ℕ = drop (suc at) c in
       rw (drop-cons c at 0 h, field-left b t 0 3 (omega arith), field-left b t 3 2 (omega arith), field-left b t 5 3 (omega arith), field-left b t 6 2 (omega arith), bit-left b t 5 (omega arith))
 
-module _ {c : List ℕ} (h : Accepted c) where
-  pub rate-there : (at v : ℕ) → (at ≡ rateAt c) × (getD c 1 0 / 16 % 2 ≡ 0 → ⊥)
-      × (v ≡ getD c at 0 % 128 * 32768 + getD c (at + 1) 0 % 256 * 128 + getD c (at + 2) 0 / 2 % 128) → answer 0 (v ∷ []) ≡ readEsRate c
-  unfolding bit
-  rate-there at v p = rw (p .2, ← rate-of c at, p .0) (sym (field-on c 11 _ h (omega arith)))
-
-  pub trick-there : (at : ℕ) (t : List ℕ) → (at ≡ trickAt c) × (getD c 1 0 / 8 % 2 ≡ 0 → ⊥) → t ≡ trickByte (getD c at 0) → answer 0 t ≡ readTrick c
-  unfolding bit
-  trick-there at t p e = rw (e, ← trick-of c at (omega (arith, trick-fits h (p .1))), p .0) (sym (field-on c 12 _ h (omega arith)))
-
-  pub raw-there : (at : ℕ) → (at ≡ trickAt c) × (getD c 1 0 / 8 % 2 ≡ 0 → ⊥) × (getD c at 0 < 256) → answer 0 (getD c at 0 ∷ []) ≡ readRawTrick c
-  unfolding bit
-  raw-there at p = rw (← first-left at c, ← byte-field (drop at c) 0 (omega (arith, first-left at c)), p .0) (sym (field-on c 12 _ h (omega arith)))
-
-  pub copy-info-marker : (at : ℕ) → (at ≡ copyInfoAt c) × (getD c 1 0 / 4 % 2 ≡ 0 → ⊥) × (getD c at 0 / 128 ≡ 0) → answer 12 (0 ∷ []) ≡ readCopyInfo c
-  unfolding bit
-  copy-info-marker at p =
-      sym (field-on c 13 _ h (omega arith) ∙ rw (← p .0, ne-eqb (bit (drop at c) 0) 1 (omega (arith, first-left at c))))
-
-  pub copy-info-there : (at v : ℕ) → (at ≡ copyInfoAt c) × (getD c 1 0 / 4 % 2 ≡ 0 → ⊥) × (getD c at 0 / 128 ≡ 0 → ⊥) × (getD c at 0 < 256) × (v ≡ getD c at 0 % 128)
-      → answer 0 (v ∷ []) ≡ readCopyInfo c
-  unfolding bit
-  copy-info-there at v p =
-      let e : field (drop at c) 1 7 ≡ v = omega (arith, in-byte (drop at c) 0 1 7 0 refl, first-left at c) in
-      sym (field-on c 13 _ h (omega arith) ∙ rw (← p .0, eq-eqb (bit (drop at c) 0) 1 (omega (arith, first-left at c)), e))
-
-  pub crc-there : (at v : ℕ) → (at ≡ crcAt c) × (getD c 1 0 / 2 % 2 ≡ 0 → ⊥) × (v ≡ getD c at 0 % 256 * 256 + getD c (at + 1) 0 % 256) → answer 0 (v ∷ []) ≡ readCrc c
-  unfolding bit
-  crc-there at v p = rw (p .2, ← crc-of c at, p .0) (sym (field-on c 14 _ h (omega arith)))
-
-  pub escr-there : (at : ℕ) (r : EscrRead) → (at ≡ escrAt c) × (getD c 1 0 / 32 % 2 ≡ 0 → ⊥) → givenEscr r ≡ escrAnswer (take (length c - at) (drop at c))
-      → givenEscr r ≡ readEscr c
-  unfolding bit
-  escr-there at r p e = rw (e, part-rest at c, p .0) (sym (field-on c 10 _ h (omega arith)))
-
-  pub extension-there : (p n : ℕ) → (p ≡ fieldsEnd c) × (n ≡ payloadAt c - fieldsEnd c) × (getD c 1 0 % 2 ≡ 0 → ⊥) → answer 0 (p ∷ n ∷ []) ≡ readExtension c
-  unfolding bit
-  extension-there p n q = rw (q .0, q .1) (sym (field-on c 15 _ h (omega arith)))
-
-  pub payload-there : (p n : ℕ) → (p ≡ payloadAt c) × (n ≡ length c - payloadAt c) → answer 0 (p ∷ n ∷ []) ≡ readPayload c
-  payload-there p n q = rw (q .0, q .1) (sym (h .is _))
-
--- ---- the trick mode byte
-
-module _ (b : ℕ) where
-  control-is : (k : ℕ) → (b < 256) × (b / 32 ≡ k) → control (b ∷ []) ≡ k
-  unfolding control
-  control-is k h = omega (arith, in-byte (b ∷ []) 0 0 3 5 refl)
-
-  fast-fields : (f t : ℕ) → f ≡ b / 8 % 4 → t ≡ truncationBits b → f ∷ truth (eqb (b / 4 % 2) 1) ∷ t ∷ [] ≡ field (b ∷ []) 3 2 ∷ bit (b ∷ []) 5 ∷ field (b ∷ []) 6 2 ∷ []
-  unfolding bit
-  fast-fields f t p e = rw (p, e, in-byte (b ∷ []) 0 3 2 3 refl, bit-truth (b / 4 % 2) (omega arith))
-
-  pub fast-forward : (f t : ℕ) → (b < 256) × (b / 32 ≡ 0) × (f ≡ b / 8 % 4) → t ≡ truncationBits b → 0 ∷ f ∷ truth (eqb (b / 4 % 2) 1) ∷ t ∷ [] ≡ trickByte b
-  unfolding trickOf
-  fast-forward f t h e = simp (control-is 0 (h .0, h .1)) (ap (λ (vs : List ℕ). 0 ∷ vs) (fast-fields f t (h .2) e))
-
-  pub slow-motion : (n : ℕ) → (b < 256) × (b / 32 ≡ 1) × (n ≡ 1) → 1 ∷ n ∷ [] ≡ trickByte b
-  unfolding trickOf
-  slow-motion n h = simp (control-is 1 (h .0, h .1), h .2)
-
-  pub freeze-frame : (f n : ℕ) → (b < 256) × (b / 32 ≡ 2) × (f ≡ b / 8 % 4) × (n ≡ b % 8) → 2 ∷ f ∷ n ∷ [] ≡ trickByte b
-  unfolding trickOf
-  freeze-frame f n h = simp (control-is 2 (h .0, h .1), h .2, h .3, in-byte (b ∷ []) 0 3 2 3 refl, in-byte (b ∷ []) 0 5 3 0 refl, div-one)
-
-  pub fast-reverse : (f t : ℕ) → (b < 256) × (b / 32 ≡ 3) × (f ≡ b / 8 % 4) → t ≡ truncationBits b → 3 ∷ f ∷ truth (eqb (b / 4 % 2) 1) ∷ t ∷ [] ≡ trickByte b
-  unfolding trickOf
-  fast-reverse f t h e = simp (control-is 3 (h .0, h .1)) (ap (λ (vs : List ℕ). 3 ∷ vs) (fast-fields f t (h .2) e))
-
-  pub slow-reverse : (n : ℕ) → (b < 256) × (b / 32 ≡ 4) × (n ≡ 4) → 4 ∷ n ∷ [] ≡ trickByte b
-  unfolding trickOf
-  slow-reverse n h = simp (control-is 4 (h .0, h .1), h .2)
-
-  pub reserved-mode : (n : ℕ) → (b < 256) × (4 < b / 32) × (n ≡ b / 32) → 5 ∷ n ∷ [] ≡ trickByte b
-  unfolding trickOf
-  reserved-mode n h =
-      let k : control (b ∷ []) ≡ n = control-is n (omega arith) in
-      simp (k, ne-eqb n 0 (omega arith), ne-eqb n 1 (omega arith), ne-eqb n 2 (omega arith), ne-eqb n 3 (omega arith), ne-eqb n 4 (omega arith))
-
 -- ---- both parts lie within the contents
 
-guarded-within : (c : List ℕ) (a : Answer) → (Accepted c → Within a c) → Within (guarded c a) c
-guarded-within c a w = go (verdict c)
-  where
-    go : Verdict c → Within (guarded c a) c
-    go (passed h) = rw (h .is a) (w h)
-    go (barred r b) = rw (← b a) (λ z. absurd (not-done r z))
+contents-within : (c : List ℕ) (a : Answer) → (Accepted c → Within a c) → Within (unless (notContents c) a) c
+unfolding notContents
+contents-within c a w = unless-within (notContents c) a c (omega arith) (λ o. w (passes c o))
 
 pub extension-within : (c : List ℕ) → Within (readExtension c) c
 unfolding flagged
-extension-within c = guarded-within c _ (λ h. go h (flag c 15))
+extension-within c = contents-within c _ (λ h. go h (flag c 15))
   where
-    go : Accepted c → (f : Bool) → Within (pick f (answer 0 (fieldsEnd c ∷ (payloadAt c - fieldsEnd c) ∷ [])) (answer 9 [])) c
+    go : Accepted c → (f : Bool) → Within (pick (not f) (answer 9 []) (answer 0 (fieldsEnd c ∷ (payloadAt c - fieldsEnd c) ∷ []))) c
     go h true z = omega arith
     go h false z = absurd (omega arith)
 
 pub payload-within : (c : List ℕ) → Within (readPayload c) c
-payload-within c = guarded-within c _ (λ h z. omega arith)
+payload-within c = contents-within c _ (λ h z. omega arith)
 
 -- an answer that is not `Done` is a refusal
 pub part-refusal : (r : PartRead) → OneOf (1 ∷ 2 ∷ []) (tagOf the-type r) → givenPart r .number ≡ 0 → ⊥
 part-refusal (PartRead.Done p n) k z = ⊎-elim (λ e. omega arith) (λ e. omega arith) k
 part-refusal PartRead.FieldNotPresent k z = omega arith
-part-refusal (PartRead.Refused r) k z = not-done r z
+part-refusal (PartRead.Refused r) k z = omega (arith, not-done r)
 
 -- ---- ES rates: one that is not made has none, and that of one that is made is that of its number
 
@@ -404,3 +243,283 @@ rate-refused n p = limited-refused (ltb n (2 ^ 22)) (n ∷ []) _ p
 pub rate-kept : (n x : ℕ) → answer 0 (x ∷ []) ≡ makeRate n → rateBytes x ≡ rateBytes n
 unfolding makeRate
 rate-kept n x p = ap rateBytes (limited-value (ltb n (2 ^ 22)) x n p)
+
+-- ---- the laws as `search` takes them: each premise is a test, or a promise, that a function's needs are handed
+
+pub rate-in : (n : ℕ) → n < 2 ^ 22 → answer 0 (n ∷ []) ≡ makeRate n
+unfolding makeRate
+rate-in n h = limited-in n (2 ^ 22) _ h
+
+pub rate-out : (n : ℕ) → 2 ^ 22 ≤ n → answer 14 [] ≡ makeRate n
+unfolding makeRate
+rate-out n h = limited-out n (2 ^ 22) _ h
+
+pub bytes-in : (n : ℕ) → n < 2 ^ 22 → answer 0 ((n * 50) ∷ []) ≡ rateBytes n
+unfolding rateBytes
+bytes-in n h = limited-in n (2 ^ 22) _ h
+
+pub bytes-out : (n : ℕ) → 2 ^ 22 ≤ n → answer 14 [] ≡ rateBytes n
+unfolding rateBytes
+bytes-out n h = limited-out n (2 ^ 22) _ h
+
+module _ (c : List ℕ) where
+  pub sum-wide : (i : ℕ) → Known c → 3 + getD c i 0 < 2 ^ 64
+  sum-wide i k = omega (arith, k i)
+
+  pub end-at : Known c → 3 + getD c 2 0 ≡ payloadAt c
+  end-at k = payload-at c (k 2 .fits)
+
+  pub end-small : Known c → 3 + getD c 2 0 ≤ 258
+  end-small k = omega (arith, k 2)
+
+  pub times-other : Known c → 2 ≤ getD c 1 0 / 64 → (getD c 1 0 / 64 ≡ 3 → ⊥) → 8 ≡ escrAt c
+  times-other k h n = times-one c (omega (arith, k 1))
+
+  pub all-on : (p q : ℕ) → p ≡ payloadAt c → q ≡ fieldsEnd c → 3 ≤ length c → getD c 0 0 / 64 ≡ 2 → p ≤ length c → q ≤ p → answer 0 [] ≡ readContents c
+  all-on p q e f h n l m = sym (contents-is c _ (omega arith))
+
+module _ (c : List ℕ) (ok : Accepted c) where
+  pub three-there : 3 ≤ length c
+  three-there = ok .fixed
+
+  pub first-there : 0 < length c
+  first-there = omega (arith, three-there)
+
+  pub second-there : 1 < length c
+  second-there = omega (arith, three-there)
+
+  pub third-there : 2 < length c
+  third-there = omega (arith, three-there)
+
+  pub off : (i : ℕ) (a : Answer) → bitOf c i ≡ 0 → answer 9 [] ≡ flagged i c a
+  unfolding bit
+  off i a h = field-off c i a ok h
+
+  pub last-off : (a : Answer) → getD c 1 0 % 2 ≡ 0 → answer 9 [] ≡ flagged 15 c a
+  unfolding bit
+  last-off a h = field-off c 15 a ok (omega arith)
+
+  pub priority-done : answer 0 (getD c 0 0 / 8 % 2 ∷ []) ≡ unless (notContents c) (answer 0 (field c 4 1 ∷ []))
+  priority-done = fixed-done ok (in-byte c 0 4 1 3 refl)
+
+  pub scrambling-done : answer 0 (getD c 0 0 / 16 % 4 ∷ []) ≡ unless (notContents c) (answer 0 (field c 2 2 ∷ []))
+  scrambling-done = fixed-done ok (in-byte c 0 2 2 4 refl)
+
+  pub flags-done : Known c → answer 0 (getD c 1 0 ∷ []) ≡ unless (notContents c) (answer 0 (field c 8 8 ∷ []))
+  flags-done k = fixed-done ok (byte-field c 1 (k 1 .fits))
+
+  pub length-done : Known c → answer 0 (getD c 2 0 ∷ []) ≡ unless (notContents c) (answer 0 (field c 16 8 ∷ []))
+  length-done k = fixed-done ok (byte-field c 2 (k 2 .fits))
+
+  pub bit-zero : (i : ℕ) → bitOf c i ≡ 0 → answer 0 (0 ∷ []) ≡ unless (notContents c) (answer 0 (field c i 1 ∷ []))
+  unfolding bit
+  bit-zero i h = fixed-done ok (field-one c i ∙ h)
+
+  pub bit-one : (i : ℕ) → (bitOf c i ≡ 0 → ⊥) → answer 0 (1 ∷ []) ≡ unless (notContents c) (answer 0 (field c i 1 ∷ []))
+  unfolding bit
+  bit-one i h = fixed-done ok (field-one c i ∙ omega arith)
+
+  pub last-zero : getD c 0 0 % 2 ≡ 0 → answer 0 (0 ∷ []) ≡ unless (notContents c) (answer 0 (field c 7 1 ∷ []))
+  last-zero h = fixed-done ok (in-byte c 0 7 1 0 refl ∙ omega arith)
+
+  pub last-one : (getD c 0 0 % 2 ≡ 0 → ⊥) → answer 0 (1 ∷ []) ≡ unless (notContents c) (answer 0 (field c 7 1 ∷ []))
+  last-one h = fixed-done ok (in-byte c 0 7 1 0 refl ∙ omega arith)
+
+  pub times-absent : getD c 1 0 / 64 ≡ 0 → answer 9 [] ≡ readPtsDts c
+  unfolding readPtsDts bit
+  times-absent h = sym (ok .is _ ∙ simp (ne-eqb (bit c 8) 1 (omega arith), ne-eqb (bit c 9) 1 (omega arith)))
+
+  pub times-invalid : getD c 1 0 / 64 ≡ 1 → answer 10 [] ≡ readPtsDts c
+  unfolding readPtsDts bit
+  times-invalid h = sym (ok .is _ ∙ simp (ne-eqb (bit c 8) 1 (omega arith), eq-eqb (bit c 9) 1 (omega arith)))
+
+  pub pts-alone : (p : StampRead) → getD c 1 0 / 64 ≡ 2 → givenStamp p ≡ readStamp (drop 3 c) → givenPtsDts (PtsDts.PtsOnly p) ≡ readPtsDts c
+  unfolding readPtsDts bit
+  pts-alone p h f = sym (ok .is _ ∙ simp (eq-eqb (bit c 8) 1 (omega arith), ne-eqb (bit c 9) 1 (omega arith), ← f))
+
+  pub pts-and-dts : (p q : StampRead) → Known c → (getD c 1 0 / 64 ≡ 0 → ⊥) → (getD c 1 0 / 64 ≡ 1 → ⊥) → (getD c 1 0 / 64 ≡ 2 → ⊥)
+      → givenStamp p ≡ readStamp (drop 3 c) → givenStamp q ≡ readStamp (drop 8 c) → givenPtsDts (PtsDts.Both p q) ≡ readPtsDts c
+  unfolding readPtsDts bit
+  pts-and-dts p q k a b d f h =
+      sym (ok .is _ ∙ simp (eq-eqb (bit c 8) 1 (omega (arith, k 1)), eq-eqb (bit c 9) 1 (omega (arith, k 1)), ← f, ← h))
+
+  module _ (at : ℕ) (p : at ≡ escrAt c) (h : getD c 1 0 / 32 % 2 ≡ 0 → ⊥) where
+    pub escr-start : at ≤ length c
+    unfolding fieldsEnd crcAt copyInfoAt trickAt rateAt bit
+    escr-start = omega arith
+
+    pub escr-room : 6 ≤ length (take (length c - at) (drop at c))
+    unfolding fieldsEnd crcAt copyInfoAt trickAt rateAt bit
+    escr-room = rw (part-rest at c, length-drop) (omega arith)
+
+    pub escr-done : (x : EscrRead) → givenEscr x ≡ escrAnswer (take (length c - at) (drop at c)) → givenEscr x ≡ readEscr c
+    unfolding bit
+    escr-done x f = rw (f, part-rest at c, p) (sym (field-on c 10 _ ok (omega arith)))
+
+  module _ (at : ℕ) (p : at ≡ rateAt c) (h : getD c 1 0 / 16 % 2 ≡ 0 → ⊥) where
+    pub rate-first : at < length c
+    unfolding fieldsEnd crcAt copyInfoAt trickAt bit
+    rate-first = omega arith
+
+    pub rate-later : (k : ℕ) → k < 3 → at + k < length c
+    unfolding fieldsEnd crcAt copyInfoAt trickAt bit
+    rate-later k l = omega arith
+
+    pub rate-done : (u v w : ℕ) → (u ≡ getD c at 0) × (u < 256) → (v ≡ getD c (at + 1) 0) × (v < 256) → (w ≡ getD c (at + 2) 0) × (w < 256)
+        → answer 0 ((u % 128 * 32768 + v * 128 + w / 2) ∷ []) ≡ readEsRate c
+    unfolding bit
+    rate-done u v w i j k =
+        let q : u % 128 * 32768 + v * 128 + w / 2 ≡ rateOf (drop at c) = omega (arith, rate-of c at) in
+        rw (q, p) (sym (field-on c 11 _ ok (omega arith)))
+
+  module _ (at : ℕ) (p : at ≡ trickAt c) (h : getD c 1 0 / 8 % 2 ≡ 0 → ⊥) where
+    pub trick-first : at < length c
+    unfolding fieldsEnd crcAt copyInfoAt bit
+    trick-first = omega arith
+
+    pub trick-done : (t : List ℕ) → t ≡ trickByte (getD c at 0) → answer 0 t ≡ readTrick c
+    unfolding bit
+    trick-done t f = rw (f, ← trick-of c at trick-first, p) (sym (field-on c 12 _ ok (omega arith)))
+
+    pub raw-done : Known c → answer 0 (getD c at 0 ∷ []) ≡ readRawTrick c
+    unfolding bit
+    raw-done k = rw (← first-left at c, ← byte-field (drop at c) 0 (omega (arith, first-left at c, k at)), p) (sym (field-on c 12 _ ok (omega arith)))
+
+  module _ (at : ℕ) (p : at ≡ copyInfoAt c) (h : getD c 1 0 / 4 % 2 ≡ 0 → ⊥) where
+    pub copy-first : at < length c
+    unfolding fieldsEnd crcAt bit
+    copy-first = omega arith
+
+    pub copy-marker : getD c at 0 / 128 ≡ 0 → answer 12 (0 ∷ []) ≡ readCopyInfo c
+    unfolding bit
+    copy-marker m = sym (field-on c 13 _ ok (omega arith) ∙ rw (← p, ne-eqb (bit (drop at c) 0) 1 (omega (arith, first-left at c))))
+
+    pub copy-done : Known c → (getD c at 0 / 128 ≡ 0 → ⊥) → answer 0 (getD c at 0 % 128 ∷ []) ≡ readCopyInfo c
+    unfolding bit
+    copy-done k m =
+        let q : field (drop at c) 1 7 ≡ getD c at 0 % 128 = omega (arith, in-byte (drop at c) 0 1 7 0 refl, first-left at c) in
+        sym (field-on c 13 _ ok (omega arith) ∙ rw (← p, eq-eqb (bit (drop at c) 0) 1 (omega (arith, first-left at c, k at)), q))
+
+  module _ (at : ℕ) (p : at ≡ crcAt c) (h : getD c 1 0 / 2 % 2 ≡ 0 → ⊥) where
+    pub crc-first : at < length c
+    unfolding fieldsEnd bit
+    crc-first = omega arith
+
+    pub crc-later : (k : ℕ) → k < 2 → at + k < length c
+    unfolding fieldsEnd bit
+    crc-later k l = omega arith
+
+    pub crc-done : (u v : ℕ) → (u ≡ getD c at 0) × (u < 256) → (v ≡ getD c (at + 1) 0) × (v < 256) → answer 0 ((u * 256 + v) ∷ []) ≡ readCrc c
+    unfolding bit
+    crc-done u v i j = let q : u * 256 + v ≡ field (drop at c) 0 16 = omega (arith, crc-of c at) in rw (q, p) (sym (field-on c 14 _ ok (omega arith)))
+
+  module _ (end : ℕ) (p : end ≡ payloadAt c) where
+    pub end-in : end ≤ length c
+    end-in = omega (arith, ok .header)
+
+    pub payload-done : answer 0 (end ∷ (length c - end) ∷ []) ≡ readPayload c
+    payload-done = rw p (sym (ok .is _))
+
+    module _ (at : ℕ) (q : at ≡ fieldsEnd c) where
+      pub fields-in : at ≤ end
+      fields-in = omega (arith, ok .fields)
+
+      pub extension-done : (getD c 1 0 % 2 ≡ 0 → ⊥) → answer 0 (at ∷ (end - at) ∷ []) ≡ readExtension c
+      unfolding bit
+      extension-done h = rw (p, q) (sym (field-on c 15 _ ok (omega arith)))
+
+times-fit : (c : List ℕ) → Accepted c → escrAt c ≤ length c
+unfolding fieldsEnd crcAt copyInfoAt trickAt rateAt
+times-fit c ok = omega arith
+
+-- by the answer itself: `accepted` below a law that has four more premises is too far for one `search`
+module _ (c : List ℕ) (r : ContentsRead) (e : r ≡ ContentsRead.Done) (g : givenContents r ≡ readContents c) where
+  pub pts-there : getD c 1 0 / 64 ≡ 2 → 8 ≤ length c
+  pts-there h = omega (arith, times-one c h, times-fit c (accepted c r e g))
+
+  module _ (k : Known c) (a : getD c 1 0 / 64 ≡ 0 → ⊥) (b : getD c 1 0 / 64 ≡ 1 → ⊥) (d : getD c 1 0 / 64 ≡ 2 → ⊥) where
+    pub dts-there : 13 ≤ length c
+    dts-there = omega (arith, times-two c (omega (arith, k 1)), times-fit c (accepted c r e g))
+
+    pub first-of-two : 8 ≤ length c
+    first-of-two = omega (arith, dts-there)
+
+-- the clock reference, by its six bytes
+module _ (xs : List ℕ) (a b d x y z : ℕ) (j : ClockMade)
+    (g : givenMade j ≡ makeClock (a / 8 % 8 * 1073741824 + (a % 4 * 8192 + b * 32 + d / 8) * 32768 + (d % 4 * 8192 + x * 32 + y / 8)) (y % 4 * 128 + z / 2))
+    (ea : (a ≡ getD xs 0 0) × (a < 256)) (eb : (b ≡ getD xs 1 0) × (b < 256)) (ed : (d ≡ getD xs 2 0) × (d < 256)) (ex : (x ≡ getD xs 3 0) × (x < 256))
+    (ey : (y ≡ getD xs 4 0) × (y < 256)) (ez : (z ≡ getD xs 5 0) × (z < 256)) where
+  pub clock-done : (k : ClockRef) → j ≡ ClockMade.Done k → answer 0 (clockValues k) ≡ escrAnswer xs
+  clock-done k e = escr-is xs _ _ _ _ j _ e g (omega arith)
+
+  pub clock-out : j ≡ ClockMade.OutOfRange → answer 9 [] ≡ escrAnswer xs
+  clock-out e = escr-out xs (escr-is xs _ _ _ _ j _ e g (omega arith))
+
+-- a timestamp at a place, by what its reader answers: the bytes from there on are as the code takes them
+module _ (at : ℕ) (xs : List ℕ) (r : TimestampRead) (g : given r ≡ readStamp (take (length xs - at) (drop at xs))) where
+  there : (s : TimestampRead) → r ≡ s → given s ≡ readStamp (drop at xs)
+  there s e = sym (ap given e) ∙ (g ∙ ap readStamp (part-rest at xs))
+
+  -- what timestamp's `stamp-long` says of its number
+  long : (s : TimestampRead) → r ≡ s → at + 5 ≤ length xs → given s .number % 12 ≡ 0
+  long s e h = stamp-long (drop at xs) (given s .number) (given s .values) (there s e) (simp length-drop (omega arith))
+
+  pub stamp-done : (t : Timestamp) → r ≡ TimestampRead.Done t → answer 0 (t .val ∷ []) ≡ readStamp (drop at xs)
+  stamp-done t e = there _ e
+
+  pub stamp-marker : (b : ℕ) → r ≡ TimestampRead.MarkerBitNotSet b → answer 12 (b ∷ []) ≡ readStamp (drop at xs)
+  stamp-marker b e = there _ e
+
+  pub stamp-short : at + 5 ≤ length xs → r ≡ TimestampRead.WrongLength → answer 12 (0 ∷ []) ≡ readStamp (drop at xs)
+  stamp-short h e = absurd (omega (arith, long _ e h))
+
+  pub stamp-prefix : (x y : ℕ) → at + 5 ≤ length xs → r ≡ TimestampRead.IncorrectPrefixBits x y → answer 12 (0 ∷ []) ≡ readStamp (drop at xs)
+  stamp-prefix x y h e = absurd (omega (arith, long _ e h))
+
+-- a part, by where it is said to lie
+pub no-part : (xs : List ℕ) (a : Answer) (r : PartRead) → OneOf (1 ∷ 2 ∷ []) (tagOf the-type r) → givenPart r ≡ a → [] ≡ partOf a xs
+no-part xs a r k e = part-refused a xs (λ z. part-refusal r k (ap (λ (x : Answer). x .number) e ∙ z))
+
+pub extension-part : (c x : List ℕ) (r : PartRead) (p n : ℕ) → r ≡ PartRead.Done p n → givenPart r ≡ readExtension c → x ≡ partAt p n c → x ≡ partOf (readExtension c) c
+extension-part c x r p n e g f = f ∙ part-done _ _ p n (ap givenPart (sym e) ∙ g) (extension-within c)
+
+pub payload-part : (c x : List ℕ) (r : PartRead) (p n : ℕ) → r ≡ PartRead.Done p n → givenPart r ≡ readPayload c → x ≡ partAt p n c → x ≡ partOf (readPayload c) c
+payload-part c x r p n e g f = f ∙ part-done _ _ p n (ap givenPart (sym e) ∙ g) (payload-within c)
+
+-- the trick mode byte
+module _ (b : ℕ) (l : b < 256) where
+  control-is : (k : ℕ) → b / 32 ≡ k → control (b ∷ []) ≡ k
+  unfolding control
+  control-is k h = omega (arith, in-byte (b ∷ []) 0 0 3 5 refl)
+
+  fast-fields : (t : ℕ) → t ≡ truncationBits b
+      → (b / 8 % 4) ∷ truth (eqb (b / 4 % 2) 1) ∷ t ∷ [] ≡ field (b ∷ []) 3 2 ∷ bit (b ∷ []) 5 ∷ field (b ∷ []) 6 2 ∷ []
+  unfolding bit
+  fast-fields t e = rw (e, in-byte (b ∷ []) 0 3 2 3 refl, bit-truth (b / 4 % 2) (omega arith))
+
+  pub fast-forward : (t : ℕ) → b / 32 ≡ 0 → t ≡ truncationBits b → 0 ∷ (b / 8 % 4) ∷ truth (eqb (b / 4 % 2) 1) ∷ t ∷ [] ≡ trickByte b
+  unfolding trickOf
+  fast-forward t k e = simp (control-is 0 k) (ap (λ (vs : List ℕ). 0 ∷ vs) (fast-fields t e))
+
+  pub slow-motion : b / 32 ≡ 1 → 1 ∷ (b / 32) ∷ [] ≡ trickByte b
+  unfolding trickOf
+  slow-motion k = simp (control-is 1 k, k)
+
+  pub freeze-frame : b / 32 ≡ 2 → 2 ∷ (b / 8 % 4) ∷ (b % 8) ∷ [] ≡ trickByte b
+  unfolding trickOf
+  freeze-frame k = simp (control-is 2 k, in-byte (b ∷ []) 0 3 2 3 refl, in-byte (b ∷ []) 0 5 3 0 refl, div-one)
+
+  pub fast-reverse : (t : ℕ) → b / 32 ≡ 3 → t ≡ truncationBits b → 3 ∷ (b / 8 % 4) ∷ truth (eqb (b / 4 % 2) 1) ∷ t ∷ [] ≡ trickByte b
+  unfolding trickOf
+  fast-reverse t k e = simp (control-is 3 k) (ap (λ (vs : List ℕ). 3 ∷ vs) (fast-fields t e))
+
+  pub slow-reverse : b / 32 ≡ 4 → 4 ∷ (b / 32) ∷ [] ≡ trickByte b
+  unfolding trickOf
+  slow-reverse k = simp (control-is 4 k, k)
+
+  pub reserved-mode : (b / 32 ≡ 0 → ⊥) → (b / 32 ≡ 1 → ⊥) → (b / 32 ≡ 2 → ⊥) → (b / 32 ≡ 3 → ⊥) → (b / 32 ≡ 4 → ⊥) → 5 ∷ (b / 32) ∷ [] ≡ trickByte b
+  unfolding trickOf
+  reserved-mode p q x y z =
+      simp (control-is (b / 32) refl, ne-eqb (b / 32) 0 p, ne-eqb (b / 32) 1 q, ne-eqb (b / 32) 2 x, ne-eqb (b / 32) 3 y, ne-eqb (b / 32) 4 z)
+
+pub ruleset contents-laws = (accepted, clock-done, clock-out, byte-wide, sum-wide, end-at, end-small, rate-in, rate-out, bytes-in, bytes-out, times-none, times-two, times-other, short, bad-check, past-buffer, past-header, all-on, refused, refused-field, refused-times, three-there, first-there, second-there, third-there, off, last-off, priority-done, scrambling-done, flags-done, length-done, bit-zero, bit-one, last-zero, last-one, times-absent, times-invalid, pts-there, pts-alone, dts-there, first-of-two, pts-and-dts, escr-start, escr-room, escr-done, rate-first, rate-later, rate-done, trick-first, trick-done, raw-done, copy-first, copy-marker, copy-done, crc-first, crc-later, crc-done, end-in, payload-done, fields-in, extension-done, stamp-done, stamp-marker, stamp-short, stamp-prefix, no-part, extension-part, payload-part, fast-forward, slow-motion, freeze-frame, fast-reverse, slow-reverse, reserved-mode, needs)

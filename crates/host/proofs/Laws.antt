@@ -10,7 +10,8 @@ use lib.Dec.{eqb}
 use borrow.Author.Tests.{eq-eqb, ne-eqb, eqb-true}
 use lib.ListN.{length, getD}
 use mir.Val.{boolByte}
-use Rattle.bits.specs.Answer.{Answer, answer, pick, andThen, truth}
+use Rattle.bits.specs.Answer.{Answer, answer, pick, andThen, truth, unless}
+use Rattle.bits.proofs.Checks.{unless-map}
 use Rattle.bits.proofs.Tests.{one-truth}
 use Rattle.timestamp.specs.Stamp.{makeStamp, likelyWrapped}
 use Rattle.timestamp.proofs.Laws.{made-value}
@@ -18,7 +19,7 @@ use Rattle.control.specs.declared.ClockRef.{ClockRef}
 use Rattle.control.specs.Clock.{clock, clockValues, makeClock}
 use Rattle.control.proofs.Laws.{clock-made, counter-made}
 use Rattle.control.specs.Control.{makeCounter, follows, isScrambled, scrambling, readScheme}
-use Rattle.packet.specs.Packet.{sound, readByteFour}
+use Rattle.packet.specs.Packet.{notPacket, readByteFour}
 use Rattle.host.specs.Clocks.{samePair, sameAnswer, followsAnswer, scramblingAnswer}
 use Rattle.host.specs.Stamps.{wrapAnswer}
 use Rattle.host.specs.Told.{Told, word, filled, outs}
@@ -123,16 +124,10 @@ scrambling-told b l m t vs h k = told (refl, rw (h, ap (λ (a : Answer). getD (a
 abbrev through : (ℕ → Answer) → Answer → Answer
 through f a = pick (eqb (a .number) 0) (f (getD (a .values) 0 0)) a
 
-four-through : (f : ℕ → Answer) (xs : List ℕ) → through f (readByteFour xs) ≡ sound xs (f (getD xs 3 0))
-unfolding sound
-four-through f xs = go (eqb (length xs) 188) (eqb (getD xs 0 0) 0x47)
-  where
-    go : (l s : Bool) → through f (pick l (pick s (answer 0 (getD xs 3 0 ∷ [])) (answer 2 [])) (answer 1 []))
-        ≡ pick l (pick s (f (getD xs 3 0)) (answer 2 [])) (answer 1 [])
-    go true true = refl
-    go true false = refl
-    go false s = refl
+four-through : (f : ℕ → Answer) (xs : List ℕ) → through f (readByteFour xs) ≡ unless (notPacket xs) (f (getD xs 3 0))
+unfolding notPacket
+four-through f xs = unless-map (notPacket xs) (through f) (λ n h. rw (ne-eqb n 0 (omega arith))) (omega arith) _
 
 pub four-told : {R : Type 0} {r k : R} {w : ℕ} {lent left : List ℕ} (xs : List ℕ) (f : ℕ → Answer) (given : R → Answer) → r ≡ k → given r ≡ readByteFour xs
-    → Told (through f (given k)) w lent left → Told (sound xs (f (getD xs 3 0))) w lent left
+    → Told (through f (given k)) w lent left → Told (unless (notPacket xs) (f (getD xs 3 0))) w lent left
 four-told xs f given e p t = told-of (λ k. through f (given k)) e (ap (through f) p ∙ four-through f xs) t

@@ -2,12 +2,12 @@
 use mathlib.Core.List.{List}
 use Prim.Native.Nat.{ℕ}
 use lib.ListN.{getD}
-use Rattle.bits.specs.Answer.{Answer}
-use Rattle.packet.specs.Packet.{sound}
+use Rattle.bits.specs.Answer.{Answer, unless}
+use Rattle.packet.specs.Packet.{notPacket}
 use Rattle.host.specs.Clocks.{controlAnswer, scramblingAnswer}
 
 abbrev pub readScrambling : List ℕ → Answer
-readScrambling xs = sound xs (scramblingAnswer (getD xs 3 0))
+readScrambling xs = unless (notPacket xs) (scramblingAnswer (getD xs 3 0))
 
 abbrev pub readControl : List ℕ → Answer
-readControl xs = sound xs (controlAnswer (getD xs 3 0))
+readControl xs = unless (notPacket xs) (controlAnswer (getD xs 3 0))

@@ -1,4 +1,5 @@
--- What the definitions of `specs/` come to on the bytes, in each case. The functions' proofs cite these, and so do callers'.
+-- What the definitions of `specs/` come to on the bytes, in each case. The functions' proofs find these by `packet-laws`,
+-- and callers' cite them. A premise is a test of the code, or a promise of what it calls.
 -- Assumes nothing.
 use mathlib.Core.Path.{_≡_, refl, sym, ap, _∙_}
 use mathlib.Core.Bool.{Bool, true, false}
@@ -8,65 +9,37 @@ use native.Mathlib.Omega.{arith}
 use lib.ListN.{length, getD}
 use lib.Dec.{eqb, leb, ltb}
 use borrow.Author.Tests.{lt-ltb, le-ltb, le-leb, lt-leb, eq-eqb, ne-eqb, ltb-true, leb-true, eqb-true}
+use borrow.Author.Needs.{needs}
 use mathlib.Core.Logic.{_⊎_, ⊎-elim}
 use types.Run.{OneOf}
 use denote.Enum.Declared.{tagOf}
-use Rattle.bits.specs.Answer.{Answer, answer, pick, Within}
-use Rattle.bits.specs.Field.{bit, flag}
-use Rattle.bits.proofs.Fields.{flag-clear, flag-set, in-byte, field-split, byte-field}
+use Rattle.bits.specs.Answer.{Answer, answer, pick, truth, unless, Within, partAt, partOf}
+use Rattle.bits.specs.Field.{bit}
+use Rattle.bits.proofs.Checks.{unless-within, other-false}
+use Rattle.bits.proofs.Fields.{flag-clear, flag-set, bitOf, in-byte, field-split, byte-field, Known, byte-wide}
+use Rattle.bits.proofs.Parts.{part-refused, part-done}
 use Rattle.control.specs.Control.{counterOf, pidOf}
 use Rattle.packet.specs.declared.PartRead.{PartRead}
 use Rattle.packet.proofs.PartRead.{the-type}
-use Rattle.packet.specs.Packet.{givenPart, sound, pidField, counterField, adaptationFlag, payloadFlag, adaptationLength}
-use Rattle.packet.specs.Packet.{adaptationThere, contentAt, payloadThere, readAdaptation, readPayload}
+use Rattle.packet.specs.Packet.{givenPart, notPacket, pidField, counterField, adaptationFlag, payloadFlag, adaptationLength}
+use Rattle.packet.specs.Packet.{adaptationThere, contentAt, payloadThere}
+use Rattle.packet.specs.Packet.{tried, readFlag, readPid, readByteFour, readCounter, readAdaptation, readPayload}
 
--- ---- a slice that is no packet, and one that is
+-- ---- a slice that is no packet
 
 module _ (xs : List ℕ) (a : Answer) where
-  pub wrong-length : (length xs ≡ 188 → ⊥) → answer 1 [] ≡ sound xs a
-  unfolding sound
+  pub wrong-length : (length xs ≡ 188 → ⊥) → answer 1 [] ≡ unless (notPacket xs) a
+  unfolding notPacket
   wrong-length h = simp (ne-eqb (length xs) 188 h)
 
-  pub no-sync : (length xs ≡ 188) × (getD xs 0 0 ≡ 0x47 → ⊥) → answer 2 [] ≡ sound xs a
-  unfolding sound
-  no-sync h = simp (eq-eqb (length xs) 188 (h .0), ne-eqb (getD xs 0 0) 0x47 (h .1))
+  pub no-sync : length xs ≡ 188 → (getD xs 0 0 ≡ 0x47 → ⊥) → answer 2 [] ≡ unless (notPacket xs) a
+  unfolding notPacket
+  no-sync l h = simp (eq-eqb (length xs) 188 l, ne-eqb (getD xs 0 0) 0x47 h)
 
-  pub sound-is : (length xs ≡ 188) × (getD xs 0 0 ≡ 0x47) → sound xs a ≡ a
-  unfolding sound
-  sound-is h = simp (eq-eqb (length xs) 188 (h .0), eq-eqb (getD xs 0 0) 0x47 (h .1))
-
--- one value, read of a packet
-pub value-done : (xs : List ℕ) (n m : ℕ) → (length xs ≡ 188) × (getD xs 0 0 ≡ 0x47) → n ≡ m → answer 0 (n ∷ []) ≡ sound xs (answer 0 (m ∷ []))
-value-done xs n m h e = ap (λ (v : ℕ). answer 0 (v ∷ [])) e ∙ sym (sound-is xs (answer 0 (m ∷ [])) h)
-
--- a part that is given only where it lies within 188 bytes lies within the packet
-pub sound-within : (xs : List ℕ) (p n : ℕ) (there : Bool) → (there ≡ true → p + n ≤ 188) → Within (sound xs (pick there (answer 0 (p ∷ n ∷ [])) (answer 9 []))) xs
-unfolding sound
-sound-within xs p n there h = go (eqb (length xs) 188) refl (eqb (getD xs 0 0) 0x47) there h
-  where
-    go : (l : Bool) → eqb (length xs) 188 ≡ l → (s t : Bool) → (t ≡ true → p + n ≤ 188)
-        → Within (pick l (pick s (pick t (answer 0 (p ∷ n ∷ [])) (answer 9 [])) (answer 2 [])) (answer 1 [])) xs
-    go true e true true h z = let f : length xs ≡ 188 = eqb-true (length xs) 188 e in let g : p + n ≤ 188 = h refl in omega arith
-    go true e true false h z = absurd (omega arith)
-    go true e false t h z = absurd (omega arith)
-    go false e s t h z = absurd (omega arith)
-
--- ---- the header's fields
+-- ---- the header's fields, from the bytes
 
 module _ (xs : List ℕ) where
-  pub error-bit : eqb (getD xs 1 0 / 128 % 2) 1 ≡ flag xs 8
-  unfolding bit
-  error-bit = refl
-
-  pub start-bit : eqb (getD xs 1 0 / 64 % 2) 1 ≡ flag xs 9
-  unfolding bit
-  start-bit = refl
-
-  pub priority-bit : eqb (getD xs 1 0 / 32 % 2) 1 ≡ flag xs 10
-  unfolding bit
-  priority-bit = refl
-
-  pub pid-is : pidOf (getD xs 1 0) (getD xs 2 0) ≡ pidField xs
+  pid-is : pidOf (getD xs 1 0) (getD xs 2 0) ≡ pidField xs
   unfolding pidOf pidField
   pid-is =
       let ys : List ℕ = getD xs 1 0 ∷ getD xs 2 0 ∷ [] in
@@ -80,106 +53,131 @@ module _ (xs : List ℕ) where
         in-byte xs 2 0 8 0 refl,
       )
 
-  pub counter-is : counterOf (getD xs 3 0) ≡ counterField xs
+  counter-is : counterOf (getD xs 3 0) ≡ counterField xs
   unfolding counterOf counterField
   counter-is = omega (arith, in-byte (getD xs 3 0 ∷ []) 0 4 4 0 refl, in-byte xs 3 4 4 0 refl)
 
-  -- ---- the adaptation field and the payload
-
-  adaptation-set : (0 < getD xs 3 0 / 32 % 2) → adaptationFlag xs ≡ true
+  adaptation-set : (getD xs 3 0 / 32 % 2 ≡ 0 → ⊥) → adaptationFlag xs ≡ true
   unfolding adaptationFlag
-  adaptation-set h = flag-set xs 26 h
+  adaptation-set h = flag-set xs 26 (omega arith)
 
   adaptation-clear : getD xs 3 0 / 32 % 2 ≡ 0 → adaptationFlag xs ≡ false
   unfolding adaptationFlag
   adaptation-clear h = flag-clear xs 26 h
 
-  payload-set : (0 < getD xs 3 0 / 16 % 2) → payloadFlag xs ≡ true
+  payload-set : (getD xs 3 0 / 16 % 2 ≡ 0 → ⊥) → payloadFlag xs ≡ true
   unfolding payloadFlag
-  payload-set h = flag-set xs 27 h
+  payload-set h = flag-set xs 27 (omega arith)
 
   payload-clear : getD xs 3 0 / 16 % 2 ≡ 0 → payloadFlag xs ≡ false
   unfolding payloadFlag
   payload-clear h = flag-clear xs 27 h
 
-  length-is : getD xs 4 0 < 256 → adaptationLength xs ≡ getD xs 4 0
+  length-is : Known xs → adaptationLength xs ≡ getD xs 4 0
   unfolding adaptationLength
-  length-is h = byte-field xs 4 h
-
-  abbrev Packet : Type 0
-  Packet = (length xs ≡ 188) × (getD xs 0 0 ≡ 0x47) × (getD xs 4 0 < 256)
-
-  -- where the test of the adaptation field or of the payload comes out so, that is the answer
-  field-is : (b : Bool) → Packet → adaptationThere xs ≡ b → pick b (answer 0 (5 ∷ getD xs 4 0 ∷ [])) (answer 9 []) ≡ readAdaptation xs
-  field-is b h e = sym (sound-is xs _ (h .0, h .1) ∙ rw (e, length-is (h .2)))
-
-  pub field-off : Packet × (getD xs 3 0 / 32 % 2 ≡ 0) → answer 9 [] ≡ readAdaptation xs
-  unfolding adaptationThere
-  field-off h = field-is false (h .0) (simp (adaptation-clear (h .1)))
-
-  pub alone-other : Packet × (0 < getD xs 3 0 / 32 % 2) × (getD xs 3 0 / 16 % 2 ≡ 0) × (getD xs 4 0 ≡ 183 → ⊥) → answer 9 [] ≡ readAdaptation xs
-  unfolding adaptationThere
-  alone-other h =
-      field-is false (h .0) (simp (adaptation-set (h .1), payload-clear (h .2), length-is (h .0 .2), ne-eqb (getD xs 4 0) 183 (h .3)))
-
-  pub alone-whole : Packet × (0 < getD xs 3 0 / 32 % 2) × (getD xs 3 0 / 16 % 2 ≡ 0) × (getD xs 4 0 ≡ 183) → answer 0 (5 ∷ getD xs 4 0 ∷ []) ≡ readAdaptation xs
-  unfolding adaptationThere
-  alone-whole h =
-      field-is true (h .0) (simp (adaptation-set (h .1), payload-clear (h .2), length-is (h .0 .2), eq-eqb (getD xs 4 0) 183 (h .3)))
-
-  pub beside-empty : Packet × (0 < getD xs 3 0 / 32 % 2) × (0 < getD xs 3 0 / 16 % 2) × (getD xs 4 0 ≡ 0) → answer 9 [] ≡ readAdaptation xs
-  unfolding adaptationThere
-  beside-empty h =
-      field-is false (h .0) (simp (adaptation-set (h .1), payload-set (h .2), length-is (h .0 .2), lt-leb 1 (getD xs 4 0) (omega arith)))
-
-  pub beside-long : Packet × (0 < getD xs 3 0 / 32 % 2) × (0 < getD xs 3 0 / 16 % 2) × (182 < getD xs 4 0) → answer 9 [] ≡ readAdaptation xs
-  unfolding adaptationThere
-  beside-long h =
-      field-is false (h .0)
-      (simp (adaptation-set (h .1), payload-set (h .2), length-is (h .0 .2), le-leb 1 (getD xs 4 0) (omega arith), lt-leb (getD xs 4 0) 182 (h .3)))
-
-  pub beside-given : Packet × (0 < getD xs 3 0 / 32 % 2) × (0 < getD xs 3 0 / 16 % 2) × (0 < getD xs 4 0) × (getD xs 4 0 ≤ 182)
-      → answer 0 (5 ∷ getD xs 4 0 ∷ []) ≡ readAdaptation xs
-  unfolding adaptationThere
-  beside-given h =
-      field-is true (h .0)
-      (simp (adaptation-set (h .1), payload-set (h .2), length-is (h .0 .2), le-leb 1 (getD xs 4 0) (h .3), le-leb (getD xs 4 0) 182 (h .4)))
-
-  payload-is : (b : Bool) (k : ℕ) → (length xs ≡ 188) × (getD xs 0 0 ≡ 0x47) → contentAt xs ≡ k → payloadThere xs ≡ b
-      → pick b (answer 0 (k ∷ (188 - k) ∷ [])) (answer 9 []) ≡ readPayload xs
-  payload-is b k h e f = sym (sound-is xs _ h ∙ rw (f, e))
+  length-is k = byte-field xs 4 (k 4 .fits)
 
   content-plain : getD xs 3 0 / 32 % 2 ≡ 0 → contentAt xs ≡ 4
   unfolding contentAt
   content-plain h = simp (adaptation-clear h)
 
-  content-after : (0 < getD xs 3 0 / 32 % 2) × (getD xs 4 0 < 256) → contentAt xs ≡ 5 + getD xs 4 0
+  content-after : Known xs → (getD xs 3 0 / 32 % 2 ≡ 0 → ⊥) → contentAt xs ≡ 5 + getD xs 4 0
   unfolding contentAt
-  content-after h = simp (adaptation-set (h .0), length-is (h .1))
+  content-after k h = simp (adaptation-set h, length-is k)
 
-  pub payload-off : (length xs ≡ 188) × (getD xs 0 0 ≡ 0x47) × (getD xs 3 0 / 16 % 2 ≡ 0) → answer 9 [] ≡ readPayload xs
-  unfolding payloadThere
-  payload-off h = payload-is false (contentAt xs) (h .0, h .1) refl (simp (payload-clear (h .2)))
+-- ---- what is read of a packet
 
-  pub payload-plain : (length xs ≡ 188) × (getD xs 0 0 ≡ 0x47) × (0 < getD xs 3 0 / 16 % 2) × (getD xs 3 0 / 32 % 2 ≡ 0) → answer 0 (4 ∷ 184 ∷ []) ≡ readPayload xs
-  unfolding payloadThere
-  payload-plain h = payload-is true 4 (h .0, h .1) (content-plain (h .3)) (simp (payload-set (h .2), content-plain (h .3)))
+module _ (xs : List ℕ) (l : length xs ≡ 188) (s : getD xs 0 0 ≡ 0x47) where
+  pub packet-is : (a : Answer) → unless (notPacket xs) a ≡ a
+  unfolding notPacket
+  packet-is a = simp (eq-eqb (length xs) 188 l, eq-eqb (getD xs 0 0) 0x47 s)
 
-  pub payload-past : Packet × (0 < getD xs 3 0 / 16 % 2) × (0 < getD xs 3 0 / 32 % 2) × (182 < getD xs 4 0) → answer 9 [] ≡ readPayload xs
-  unfolding payloadThere
-  payload-past h =
-      payload-is false (contentAt xs) (h .0 .0, h .0 .1) refl
-      (simp (payload-set (h .1), content-after (h .2, h .0 .2), le-ltb (5 + getD xs 4 0) 188 (omega arith)))
+  pub tried-done : answer 0 [] ≡ tried xs
+  tried-done = sym (packet-is _)
 
-  pub payload-after : (p n : ℕ) → Packet × (0 < getD xs 3 0 / 16 % 2) × (0 < getD xs 3 0 / 32 % 2) × (getD xs 4 0 ≤ 182) × (p ≡ 5 + getD xs 4 0) × (n ≡ 183 - getD xs 4 0)
-      → answer 0 (p ∷ n ∷ []) ≡ readPayload xs
+  value-done : (n m : ℕ) → n ≡ m → answer 0 (n ∷ []) ≡ unless (notPacket xs) (answer 0 (m ∷ []))
+  value-done n m e = ap (λ (v : ℕ). answer 0 (v ∷ [])) e ∙ sym (packet-is _)
+
+  pub flag-done : (n i : ℕ) → n ≡ truth (eqb (bitOf xs i) 1) → answer 0 (n ∷ []) ≡ readFlag i xs
+  unfolding bit
+  flag-done n i e = value-done n _ e
+
+  pub pid-done : (n : ℕ) → n ≡ pidOf (getD xs 1 0) (getD xs 2 0) → answer 0 (n ∷ []) ≡ readPid xs
+  pid-done n e = value-done n _ (e ∙ pid-is xs)
+
+  pub four-done : (n : ℕ) → n ≡ getD xs 3 0 → answer 0 (n ∷ []) ≡ readByteFour xs
+  four-done n e = value-done n _ e
+
+  pub counter-done : (n : ℕ) → n ≡ counterOf (getD xs 3 0) → answer 0 (n ∷ []) ≡ readCounter xs
+  counter-done n e = value-done n _ (e ∙ counter-is xs)
+
+  -- where the test of the adaptation field or of the payload comes out so, that is the answer
+  field-is : (b : Bool) → Known xs → adaptationThere xs ≡ b → pick b (answer 0 (5 ∷ getD xs 4 0 ∷ [])) (answer 9 []) ≡ readAdaptation xs
+  field-is b k e = sym (packet-is _ ∙ rw (e, length-is xs k))
+
+  payload-is : (b : Bool) (k : ℕ) → contentAt xs ≡ k → payloadThere xs ≡ b → pick b (answer 0 (k ∷ (188 - k) ∷ [])) (answer 9 []) ≡ readPayload xs
+  payload-is b k e f = sym (packet-is _ ∙ rw (f, e))
+
+  pub field-off : Known xs → getD xs 3 0 / 32 % 2 ≡ 0 → answer 9 [] ≡ readAdaptation xs
+  unfolding adaptationThere
+  field-off k h = field-is false k (simp (adaptation-clear xs h))
+
+  module _ (k : Known xs) (f : getD xs 3 0 / 32 % 2 ≡ 0 → ⊥) (p : getD xs 3 0 / 16 % 2 ≡ 0) where
+    pub alone-other : (getD xs 4 0 ≡ 183 → ⊥) → answer 9 [] ≡ readAdaptation xs
+    unfolding adaptationThere
+    alone-other h = field-is false k (simp (adaptation-set xs f, payload-clear xs p, length-is xs k, ne-eqb (getD xs 4 0) 183 h))
+
+    pub alone-whole : getD xs 4 0 ≡ 183 → answer 0 (5 ∷ getD xs 4 0 ∷ []) ≡ readAdaptation xs
+    unfolding adaptationThere
+    alone-whole h = field-is true k (simp (adaptation-set xs f, payload-clear xs p, length-is xs k, eq-eqb (getD xs 4 0) 183 h))
+
+  module _ (k : Known xs) (f : getD xs 3 0 / 32 % 2 ≡ 0 → ⊥) (p : getD xs 3 0 / 16 % 2 ≡ 0 → ⊥) where
+    pub beside-empty : getD xs 4 0 ≡ 0 → answer 9 [] ≡ readAdaptation xs
+    unfolding adaptationThere
+    beside-empty h = field-is false k (simp (adaptation-set xs f, payload-set xs p, length-is xs k, lt-leb 1 (getD xs 4 0) (omega arith)))
+
+    pub beside-long : 182 < getD xs 4 0 → answer 9 [] ≡ readAdaptation xs
+    unfolding adaptationThere
+    beside-long h =
+        field-is false k
+        (simp (adaptation-set xs f, payload-set xs p, length-is xs k, le-leb 1 (getD xs 4 0) (omega arith), lt-leb (getD xs 4 0) 182 h))
+
+    pub beside-given : (getD xs 4 0 ≡ 0 → ⊥) → getD xs 4 0 ≤ 182 → answer 0 (5 ∷ getD xs 4 0 ∷ []) ≡ readAdaptation xs
+    unfolding adaptationThere
+    beside-given n h =
+        field-is true k
+        (simp (adaptation-set xs f, payload-set xs p, length-is xs k, le-leb 1 (getD xs 4 0) (omega arith), le-leb (getD xs 4 0) 182 h))
+
+  pub payload-off : getD xs 3 0 / 16 % 2 ≡ 0 → answer 9 [] ≡ readPayload xs
   unfolding payloadThere
-  payload-after p n h =
-      let e : contentAt xs ≡ p = content-after (h .2, h .0 .2) ∙ sym (h .4) in
-      let f : n ≡ 188 - p = omega arith in
-      rw f (payload-is true p (h .0 .0, h .0 .1) e (simp (payload-set (h .1), e, lt-ltb p 188 (omega arith))))
+  payload-off h = payload-is false (contentAt xs) refl (simp (payload-clear xs h))
+
+  module _ (p : getD xs 3 0 / 16 % 2 ≡ 0 → ⊥) where
+    pub payload-plain : getD xs 3 0 / 32 % 2 ≡ 0 → answer 0 (4 ∷ 184 ∷ []) ≡ readPayload xs
+    unfolding payloadThere
+    payload-plain h = payload-is true 4 (content-plain xs h) (simp (payload-set xs p, content-plain xs h))
+
+    module _ (k : Known xs) (f : getD xs 3 0 / 32 % 2 ≡ 0 → ⊥) where
+      pub payload-past : 183 ≤ getD xs 4 0 → answer 9 [] ≡ readPayload xs
+      unfolding payloadThere
+      payload-past h =
+          payload-is false (contentAt xs) refl (simp (payload-set xs p, content-after xs k f, le-ltb (5 + getD xs 4 0) 188 (omega arith)))
+
+      pub payload-after : getD xs 4 0 < 183 → answer 0 ((5 + getD xs 4 0) ∷ (183 - getD xs 4 0) ∷ []) ≡ readPayload xs
+      unfolding payloadThere
+      payload-after h =
+          let e : 183 - getD xs 4 0 ≡ 188 - (5 + getD xs 4 0) = omega arith in
+          rw e (payload-is true (5 + getD xs 4 0) (content-after xs k f) (simp (payload-set xs p, content-after xs k f, lt-ltb (5 + getD xs 4 0) 188 (omega arith))))
 
 -- ---- both parts lie within the packet
+
+part-within : (xs : List ℕ) (p n : ℕ) (there : Bool) → (there ≡ true → p + n ≤ 188) → Within (unless (notPacket xs) (pick there (answer 0 (p ∷ n ∷ [])) (answer 9 []))) xs
+unfolding notPacket
+part-within xs p n there h = unless-within (notPacket xs) _ xs (omega arith) (λ o. go (other-false (length xs) 188 (o .0)) there h)
+  where
+    go : length xs ≡ 188 → (t : Bool) → (t ≡ true → p + n ≤ 188) → Within (pick t (answer 0 (p ∷ n ∷ [])) (answer 9 [])) xs
+    go e true h z = let g : p + n ≤ 188 = h refl in omega arith
+    go e false h z = absurd (omega arith)
 
 false-true : {A : Type 0} → false ≡ true → A
 false-true e = let z : _≡_ {A = ℕ} 0 1 = cc in absurd (omega arith)
@@ -190,23 +188,37 @@ field-fits n true true false e = false-true e
 field-fits n true false s e = omega (arith, eqb-true n 183 e)
 field-fits n false p s e = false-true e
 
-pub adaptation-within : (xs : List ℕ) → Within (readAdaptation xs) xs
+adaptation-within : (xs : List ℕ) → Within (readAdaptation xs) xs
 unfolding adaptationThere
 adaptation-within xs =
-    sound-within xs 5 (adaptationLength xs) (adaptationThere xs)
+    part-within xs 5 (adaptationLength xs) (adaptationThere xs)
     (field-fits (adaptationLength xs) (adaptationFlag xs) (payloadFlag xs) (leb 1 (adaptationLength xs)))
 
 content-fits : (k : ℕ) (p : Bool) → pick p (ltb k 188) false ≡ true → k + (188 - k) ≤ 188
 content-fits k true e = omega (arith, ltb-true k 188 e)
 content-fits k false e = false-true e
 
-pub payload-within : (xs : List ℕ) → Within (readPayload xs) xs
+payload-within : (xs : List ℕ) → Within (readPayload xs) xs
 unfolding payloadThere
-payload-within xs = sound-within xs (contentAt xs) (188 - contentAt xs) (payloadThere xs) (content-fits (contentAt xs) (payloadFlag xs))
+payload-within xs = part-within xs (contentAt xs) (188 - contentAt xs) (payloadThere xs) (content-fits (contentAt xs) (payloadFlag xs))
 
 -- an answer that is not `Done` is a refusal
-pub not-done : (r : PartRead) → OneOf (1 ∷ 2 ∷ 3 ∷ []) (tagOf the-type r) → givenPart r .number ≡ 0 → ⊥
+not-done : (r : PartRead) → OneOf (1 ∷ 2 ∷ 3 ∷ []) (tagOf the-type r) → givenPart r .number ≡ 0 → ⊥
 not-done (PartRead.Done p n) k z = ⊎-elim (λ e. omega arith) (⊎-elim (λ e. omega arith) (λ e. omega arith)) k
 not-done PartRead.WrongLength k z = omega arith
 not-done PartRead.NoSync k z = omega arith
 not-done PartRead.FieldNotPresent k z = omega arith
+
+-- the bytes of a part, by where it is said to lie
+module _ (xs ys : List ℕ) (r : PartRead) where
+  pub no-part : (a : Answer) → OneOf (1 ∷ 2 ∷ 3 ∷ []) (tagOf the-type r) → givenPart r ≡ a → [] ≡ partOf a xs
+  no-part a k e = part-refused a xs (λ z. not-done r k (ap (λ (b : Answer). b .number) e ∙ z))
+
+  module _ (p n : ℕ) (e : r ≡ PartRead.Done p n) (f : ys ≡ partAt p n xs) where
+    pub adaptation-part : givenPart r ≡ readAdaptation xs → ys ≡ partOf (readAdaptation xs) xs
+    adaptation-part g = f ∙ part-done _ _ p n (ap givenPart (sym e) ∙ g) (adaptation-within xs)
+
+    pub payload-part : givenPart r ≡ readPayload xs → ys ≡ partOf (readPayload xs) xs
+    payload-part g = f ∙ part-done _ _ p n (ap givenPart (sym e) ∙ g) (payload-within xs)
+
+pub ruleset packet-laws = (wrong-length, no-sync, tried-done, flag-done, pid-done, four-done, counter-done, byte-wide, field-off, alone-other, alone-whole, beside-empty, beside-long, beside-given, payload-off, payload-plain, payload-past, payload-after, no-part, adaptation-part, payload-part, needs)

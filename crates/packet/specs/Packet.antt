@@ -7,7 +7,7 @@ use mathlib.Core.List.{List, [], _∷_}
 use Prim.Native.Nat.{ℕ, _+_, _-_}
 use lib.ListN.{length, getD}
 use lib.Dec.{eqb, leb, ltb}
-use Rattle.bits.specs.Answer.{Answer, answer, pick, truth}
+use Rattle.bits.specs.Answer.{Answer, answer, pick, truth, Check, _gives_, unless, other}
 use Rattle.bits.specs.Field.{field, flag}
 use Rattle.bits.specs.Numbers.{done, wrongLength, noSync, fieldNotPresent}
 use Rattle.packet.specs.declared.Tried.{Tried}
@@ -58,12 +58,15 @@ givenPart PartRead.FieldNotPresent = answer fieldNotPresent []
 
 -- ---- what is read
 
--- 1 where there are not 188 bytes, 2 where the first is not the sync byte, else what is read of the packet
-unfoldable pub sound : List ℕ → Answer → Answer
-sound xs a = pick (eqb (length xs) 188) (pick (eqb (getD xs 0 0) 0x47) a (answer noSync [])) (answer wrongLength [])
+-- a slice that is no packet: 1 where there are not 188 bytes, 2 where the first is not the sync byte
+unfoldable pub notPacket : List ℕ → List Check
+notPacket xs =
+    other (length xs) 188 gives wrongLength
+    ∷ other (getD xs 0 0) 0x47 gives noSync
+    ∷ []
 
 abbrev pub tried : List ℕ → Answer
-tried xs = sound xs (answer done [])
+tried xs = unless (notPacket xs) (answer done [])
 
 -- the places of the flags
 abbrev pub errorBit : ℕ
@@ -76,23 +79,23 @@ abbrev pub priorityBit : ℕ
 priorityBit = 10
 
 abbrev pub readFlag : ℕ → List ℕ → Answer
-readFlag i xs = sound xs (answer done (truth (flag xs i) ∷ []))
+readFlag i xs = unless (notPacket xs) (answer done (truth (flag xs i) ∷ []))
 
 unfoldable pub pidField : List ℕ → ℕ
 pidField xs = field xs 11 13
 
 abbrev pub readPid : List ℕ → Answer
-readPid xs = sound xs (answer done (pidField xs ∷ []))
+readPid xs = unless (notPacket xs) (answer done (pidField xs ∷ []))
 
 -- the fourth byte, of which the crate control reads the scrambling and adaptation control bits
 abbrev pub readByteFour : List ℕ → Answer
-readByteFour xs = sound xs (answer done (getD xs 3 0 ∷ []))
+readByteFour xs = unless (notPacket xs) (answer done (getD xs 3 0 ∷ []))
 
 unfoldable pub counterField : List ℕ → ℕ
 counterField xs = field xs 28 4
 
 abbrev pub readCounter : List ℕ → Answer
-readCounter xs = sound xs (answer done (counterField xs ∷ []))
+readCounter xs = unless (notPacket xs) (answer done (counterField xs ∷ []))
 
 -- adaptation_field_control: whether there is an adaptation field, and whether there is a payload
 unfoldable pub adaptationFlag : List ℕ → Bool
@@ -113,7 +116,7 @@ adaptationThere xs =
     false
 
 abbrev pub readAdaptation : List ℕ → Answer
-readAdaptation xs = sound xs (pick (adaptationThere xs) (answer done (5 ∷ adaptationLength xs ∷ [])) (answer fieldNotPresent []))
+readAdaptation xs = unless (notPacket xs) (pick (adaptationThere xs) (answer done (5 ∷ adaptationLength xs ∷ [])) (answer fieldNotPresent []))
 
 -- where the content after the header and the adaptation field starts
 unfoldable pub contentAt : List ℕ → ℕ
@@ -124,4 +127,4 @@ unfoldable pub payloadThere : List ℕ → Bool
 payloadThere xs = pick (payloadFlag xs) (ltb (contentAt xs) 188) false
 
 abbrev pub readPayload : List ℕ → Answer
-readPayload xs = sound xs (pick (payloadThere xs) (answer done (contentAt xs ∷ (188 - contentAt xs) ∷ [])) (answer fieldNotPresent []))
+readPayload xs = unless (notPacket xs) (pick (payloadThere xs) (answer done (contentAt xs ∷ (188 - contentAt xs) ∷ [])) (answer fieldNotPresent []))

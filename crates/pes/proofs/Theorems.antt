@@ -138,18 +138,3 @@ contentsBack-given ContentsRead.BadStartCode = refl
 
 pub one-contents : (s : Answer) (a b : ContentsRead) → givenContents a ≡ s → givenContents b ≡ s → a ≡ b
 one-contents = one-answer givenContents contentsBack contentsBack-given
-
--- ---- an id carries parsed contents just where what it stands for does
-
--- each of the 256 ids, computed
-pub kind-agrees : (n : ℕ) → n < 256 → parsedId (getD (idValues n) 0 0) ≡ parsedId n
-unfolding idValues parsedId
-kind-agrees n h = agree (λ (m : ℕ). parsedId (getD (idValues m) 0 0)) parsedId 0 256 tt n (omega arith)
-
-pub parsed-agrees : (n : ℕ) (s : StreamId) → n < 256 → givenId s ≡ readId n → parsedId (kindOf s) ≡ parsedId n
-parsed-agrees n s h e = ap (λ (a : Answer). parsedId (value a 0)) e ∙ kind-agrees n h
-
--- ---- what follows the head lies within the bytes
-
-pub contents-within : (xs : List ℕ) → Within (contentsPart xs) xs
-contents-within xs z = let h = headed-done xs (answer 0 (6 ∷ (length xs - 6) ∷ [])) z in rw (h .1) (omega (arith, h .0))

@@ -3,7 +3,7 @@ use mathlib.Core.List.{List, [], _∷_}
 use Prim.Native.Nat.{ℕ, _-_}
 use lib.ListN.{length}
 use lib.Dec.{eqb, ltb}
-use Rattle.bits.specs.Answer.{Answer, answer, pick, truth}
+use Rattle.bits.specs.Answer.{Answer, answer, pick, truth, Check, _gives_, unless, other}
 use Rattle.bits.specs.Field.{field}
 use Rattle.bits.specs.Numbers.{done, shortHeader, badStartCode}
 use Rattle.pes.specs.Stream.{givenId, readId, parsedId}
@@ -40,30 +40,33 @@ givenContents ContentsRead.BadStartCode = answer badStartCode []
 
 -- ---- what is read
 
--- 3 below 6 bytes, 4 where they do not begin with the start code prefix, else what is read of the head
-unfoldable pub headed : List ℕ → Answer → Answer
-headed xs a = pick (ltb (length xs) 6) (answer shortHeader []) (pick (eqb (field xs 0 24) 1) a (answer badStartCode []))
+-- bytes that begin with no head: 3 below 6 bytes, 4 where they do not begin with the start code prefix
+unfoldable pub notHead : List ℕ → List Check
+notHead xs =
+    ltb (length xs) 6 gives shortHeader
+    ∷ other (field xs 0 24) 1 gives badStartCode
+    ∷ []
 
 abbrev pub readHead : List ℕ → Answer
-readHead xs = headed xs (answer done [])
+readHead xs = unless (notHead xs) (answer done [])
 
 unfoldable pub idOf : List ℕ → ℕ
 idOf xs = field xs 24 8
 
 abbrev pub readStreamId : List ℕ → Answer
-readStreamId xs = headed xs (readId (idOf xs))
+readStreamId xs = unless (notHead xs) (readId (idOf xs))
 
 -- PES_packet_length: 0 is unbounded
 unfoldable pub packetLength : List ℕ → ℕ
 packetLength xs = field xs 32 16
 
 abbrev pub readLength : List ℕ → Answer
-readLength xs = headed xs (pick (eqb (packetLength xs) 0) (answer done (0 ∷ [])) (answer done (1 ∷ packetLength xs ∷ [])))
+readLength xs = unless (notHead xs) (pick (eqb (packetLength xs) 0) (answer done (0 ∷ [])) (answer done (1 ∷ packetLength xs ∷ [])))
 
 -- what follows the six bytes: its kind, its place and its length
 abbrev pub readContents : List ℕ → Answer
-readContents xs = headed xs (answer done (truth (parsedId (idOf xs)) ∷ 6 ∷ (length xs - 6) ∷ []))
+readContents xs = unless (notHead xs) (answer done (truth (parsedId (idOf xs)) ∷ 6 ∷ (length xs - 6) ∷ []))
 
 -- the same as a part: place and length alone
 abbrev pub contentsPart : List ℕ → Answer
-contentsPart xs = headed xs (answer done (6 ∷ (length xs - 6) ∷ []))
+contentsPart xs = unless (notHead xs) (answer done (6 ∷ (length xs - 6) ∷ []))

@@ -7,20 +7,20 @@ use Prim.Native.Nat.{ℕ, _+_, _-_, _≤_, _<_}
 use native.Mathlib.Omega.{arith}
 use types.Run.{OneOf, miss}
 use denote.Enum.Declared.{tagOf}
-use lib.Dec.{eqb, ltb}
+use lib.Dec.{eqb}
 use lib.ListN.{length, getD, take, drop, length-drop}
 use lib.Seq.{drop-drop}
 use borrow.Author.Tests.{eqb-true, eqb-false}
-use Rattle.bits.specs.Answer.{Answer, answer, pick, truth, partOf, Within}
-use Rattle.bits.specs.Field.{field}
+use Rattle.bits.specs.Answer.{Answer, answer, pick, truth, unless, partOf, Within}
+use Rattle.bits.proofs.Checks.{refused-by, unless-number, unless-most}
 use Rattle.bits.proofs.Parts.{part-rest}
 use Rattle.pes.specs.declared.ContentsRead.{ContentsRead}
 use Rattle.pes.specs.Stream.{parsedId}
-use Rattle.pes.specs.Head.{headed, idOf, givenContents, readContents}
+use Rattle.pes.specs.Head.{notHead, idOf, givenContents, readContents}
 use Rattle.pes.proofs.Laws.{contents-known}
 use Rattle.contents.specs.declared.PartRead.{PartRead}
 use Rattle.contents.specs.declared.Refusal.{Refusal}
-use Rattle.contents.specs.Contents.{fieldsEnd, payloadAt, guarded, readPayload, readContents as readParsed}
+use Rattle.contents.specs.Contents.{notContents, readPayload, readContents as readParsed}
 use Rattle.contents.specs.Given.{refusal, givenPart}
 use Rattle.contents.proofs.Laws.{payload-within}
 use Rattle.pes_header.specs.declared.PayloadRead.{PayloadRead}
@@ -79,51 +79,28 @@ module _ (k : ℕ) (a : Answer) where
       go true e = rw (e, drop-drop (getD (a .values) 0 0) k xs)
       go false e = rw e
 
--- what is read of the contents, by the four tests
-abbrev tested : Bool → Bool → Bool → Bool → Answer → Answer
-tested s k p f a = pick s (answer 5 []) (pick k (pick p (answer 7 []) (pick f (answer 8 []) a)) (answer 6 []))
-
--- it is refused by the number of the contents, which is at most 8
-pub contents-number : (c : List ℕ) (a : Answer) → a .number ≡ 0 → (guarded c a .number ≡ readParsed c .number) × (guarded c a .number ≤ 8)
-unfolding guarded
-contents-number c a z = go (ltb (length c) 3) (eqb (field c 0 2) 2) (ltb (length c) (payloadAt c)) (ltb (payloadAt c) (fieldsEnd c))
-  where
-    go : (s k p f : Bool) → (tested s k p f a .number ≡ tested s k p f (answer 0 []) .number) × (tested s k p f a .number ≤ 8)
-    go true k p f = (refl, omega arith)
-    go false false p f = (refl, omega arith)
-    go false true true f = (refl, omega arith)
-    go false true false true = (refl, omega arith)
-    go false true false false = (z, omega arith)
+-- what is read of contents is refused by their number, which is at most 8
+pub contents-number : (c : List ℕ) (a : Answer) → a .number ≡ 0
+    → (unless (notContents c) a .number ≡ readParsed c .number) × (unless (notContents c) a .number ≤ 8)
+unfolding notContents
+contents-number c a z = (unless-number (notContents c) a (answer 0 []) z, unless-most (notContents c) 8 (omega arith) a (omega arith))
 
 module _ (xs : List ℕ) where
-  -- a head that is refused is so whatever is read of it
-  pub head-refused : (a b : Answer) → a .number ≡ 0 → 0 < headed xs a .number → headed xs a ≡ headed xs b
-  unfolding headed
-  head-refused a b z = go (ltb (length xs) 6) (eqb (field xs 0 24) 1)
-    where
-      go : (l p : Bool) → 0 < pick l (answer 3 []) (pick p a (answer 4 [])) .number
-          → pick l (answer 3 []) (pick p a (answer 4 [])) ≡ pick l (answer 3 []) (pick p b (answer 4 []))
-      go true p h = refl
-      go false true h = absurd (omega arith)
-      go false false h = refl
-
   pub refused-head : (r s : ContentsRead) → r ≡ s → givenContents r ≡ readContents xs → 0 < givenContents s .number
       → givenContents s ≡ headerPayload xs
   unfolding headerPayload
-  refused-head r s e g h =
-      let f : givenContents s ≡ readContents xs = sym (ap givenContents e) ∙ g in
-      f ∙ head-refused _ _ refl (rw f at h)
+  refused-head r s e g h = refused-by (notHead xs) _ refl (givenContents s) h (sym (ap givenContents e) ∙ g) _
 
   pub bare : (r : ContentsRead) (p n : ℕ) → r ≡ ContentsRead.Payload p n → givenContents r ≡ readContents xs
       → answer 0 (p ∷ n ∷ []) ≡ headerPayload xs
   unfolding headerPayload
   bare r p n e g =
       let k = contents-known xs 0 p n (sym (ap givenContents e) ∙ g) in
-      rw (k .3, k .4) (sym (k .1 _ ∙ rw (is-false (parsedId (idOf xs)) (k .2)) (k .1 _)))
+      rw (k .2, k .3) (sym (k .0 .is _ ∙ rw (is-false (parsedId (idOf xs)) (k .1)) (k .0 .is _)))
 
   module _ (r : ContentsRead) (p n : ℕ) (e : r ≡ ContentsRead.Parsed p n) (g : givenContents r ≡ readContents xs) where
     pub parsed-there : (p ≡ 6) × (6 ≤ length xs)
-    parsed-there = let k = contents-known xs 1 p n (sym (ap givenContents e) ∙ g) in (k .3, k .0)
+    parsed-there = let k = contents-known xs 1 p n (sym (ap givenContents e) ∙ g) in (k .2, k .0 .long)
 
     module _ (q : PartRead) (f : givenPart q ≡ readPayload (take (length xs - p) (drop p xs))) where
       read-off : givenPart q ≡ readPayload (drop 6 xs)
@@ -133,7 +110,7 @@ module _ (xs : List ℕ) where
       unfolding headerPayload
       parsed-is =
           let k = contents-known xs 1 p n (sym (ap givenContents e) ∙ g) in
-          rw read-off (sym (k .1 _ ∙ rw (is-true (parsedId (idOf xs)) (k .2))))
+          rw read-off (sym (k .0 .is _ ∙ rw (is-true (parsedId (idOf xs)) (k .1))))
 
       pub contents-refused : (w : Refusal) → q ≡ PartRead.Refused w → refusal w ≡ headerPayload xs
       contents-refused w h = later-refused w ∙ (ap (λ (z : PartRead). later 6 (givenPart z)) (sym h) ∙ parsed-is)

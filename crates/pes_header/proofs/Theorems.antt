@@ -10,7 +10,8 @@ use borrow.Author.Tests.{eqb-true, eqb-false}
 use lib.Dec.{eqb}
 use lib.ListN.{length, getD, drop}
 use denote.Ref.{now}
-use Rattle.bits.specs.Answer.{Answer, answer, pick, andThen, partOf, Within}
+use Rattle.bits.specs.Answer.{Answer, answer, pick, andThen, unless, partOf, Within}
+use Rattle.bits.proofs.Checks.{refused-by}
 use Rattle.bits.proofs.Tests.{one-answer}
 use Rattle.bits.proofs.Parts.{part-refused, part-rest, part-in, part-done}
 use Rattle.pes.specs.declared.HeadRead.{HeadRead}
@@ -19,15 +20,15 @@ use Rattle.pes.specs.declared.LengthRead.{LengthRead}
 use Rattle.pes.specs.declared.ContentsRead.{ContentsRead}
 use Rattle.pes.specs.Stream.{parsedId}
 use Rattle.pes.specs.Head.{givenHead, givenStreamId, givenLength, givenContents}
-use Rattle.pes.specs.Head.{headed, idOf, readHead, readStreamId, readLength, readContents, contentsPart}
-use Rattle.pes.proofs.Laws.{headed-done}
-use Rattle.pes.proofs.Theorems.{one-head, one-stream-id, one-length, one-contents, contents-within}
+use Rattle.pes.specs.Head.{notHead, idOf, readHead, readStreamId, readLength, readContents, contentsPart}
+use Rattle.pes.proofs.Laws.{Headed, headed-done, contents-within}
+use Rattle.pes.proofs.Theorems.{one-head, one-stream-id, one-length, one-contents}
 use Rattle.contents.specs.Contents.{readPayload, readContents as readParsed}
 use Rattle.contents.proofs.Laws.{payload-within as contents-payload-within}
 use Rattle.pes_header.specs.declared.PesHeader.{PesHeader}
 use Rattle.pes_header.specs.declared.PayloadRead.{PayloadRead}
 use Rattle.pes_header.specs.Payload.{givenPayload, later, headerPayload, payloadBytes}
-use Rattle.pes_header.proofs.Laws.{later-number, later-within, later-part, contents-number, head-refused}
+use Rattle.pes_header.proofs.Laws.{later-number, later-within, later-part, contents-number}
 
 -- ---- one answer only: any two answers that meet the promise of `payload_at` are equal
 
@@ -83,10 +84,9 @@ module _ (xs : List ℕ) where
   unfolding headerPayload
   payload-within z = let h = headed-done xs _ z in go (parsedId (idOf xs)) h z
     where
-      go : (t : Bool) → (6 ≤ length xs) × ((b : Answer) → headed xs b ≡ b)
-          → Within (headed xs (pick t (later 6 (readPayload (drop 6 xs))) (contentsPart xs))) xs
-      go true h = rw (h .1 (later 6 (readPayload (drop 6 xs)))) (later-within 6 (readPayload (drop 6 xs)) xs (h .0) (contents-payload-within (drop 6 xs)))
-      go false h = rw (h .1 (contentsPart xs)) (contents-within xs)
+      go : (t : Bool) → Headed xs → Within (unless (notHead xs) (pick t (later 6 (readPayload (drop 6 xs))) (contentsPart xs))) xs
+      go true h = rw (h .is (later 6 (readPayload (drop 6 xs)))) (later-within 6 (readPayload (drop 6 xs)) xs (h .long) (contents-payload-within (drop 6 xs)))
+      go false h = rw (h .is (contentsPart xs)) (contents-within xs)
 
   -- ---- what it is, by case
 
@@ -94,7 +94,7 @@ module _ (xs : List ℕ) where
   pub refused-payload : (readHead xs .number ≡ 0 → ⊥) → (headerPayload xs ≡ readHead xs) × (payloadBytes xs ≡ [])
   unfolding headerPayload payloadBytes
   refused-payload h =
-      let e = sym (head-refused xs (answer 0 []) _ refl (omega (arith, h))) in
+      let e = sym (refused-by (notHead xs) (answer 0 []) refl (readHead xs) (omega (arith, h)) refl _) in
       (e, sym (part-refused (headerPayload xs) xs (λ z. h (ap (λ (a : Answer). a .number) (sym e) ∙ z))))
 
   module _ (h : readHead xs .number ≡ 0) where
@@ -103,16 +103,16 @@ module _ (xs : List ℕ) where
     unfolding headerPayload payloadBytes
     bare-payload t =
         let d = headed-done xs (answer 0 []) h in
-        let e : headerPayload xs ≡ contentsPart xs = d .1 _ ∙ rw t in
-        let p = part-done (contentsPart xs) xs 6 (length xs - 6) (sym (d .1 _)) (contents-within xs) in
-        (e, ap (λ (a : Answer). partOf a xs) e ∙ (sym p ∙ (sym (part-in 6 (length xs - 6) xs (omega (arith, d .0))) ∙ part-rest 6 xs)))
+        let e : headerPayload xs ≡ contentsPart xs = d .is _ ∙ rw t in
+        let p = part-done (contentsPart xs) xs 6 (length xs - 6) (sym (d .is _)) (contents-within xs) in
+        (e, ap (λ (a : Answer). partOf a xs) e ∙ (sym p ∙ (sym (part-in 6 (length xs - 6) xs (omega (arith, d .long))) ∙ part-rest 6 xs)))
 
     -- an id that carries parsed contents: what `contents::payload` gives of the bytes after the six, refused by the number of the contents
     pub parsed-payload : parsedId (idOf xs) ≡ true
         → (headerPayload xs ≡ later 6 (readPayload (drop 6 xs))) × (payloadBytes xs ≡ partOf (readPayload (drop 6 xs)) (drop 6 xs))
     unfolding headerPayload payloadBytes
     parsed-payload t =
-        let e : headerPayload xs ≡ later 6 (readPayload (drop 6 xs)) = headed-done xs (answer 0 []) h .1 _ ∙ rw t in
+        let e : headerPayload xs ≡ later 6 (readPayload (drop 6 xs)) = headed-done xs (answer 0 []) h .is _ ∙ rw t in
         (e, ap (λ (a : Answer). partOf a xs) e ∙ later-part 6 (readPayload (drop 6 xs)) xs)
 
   -- THE NUMBER is the head's where that is refused, else that of the contents where the id carries such, and 0 after a bare id
@@ -126,5 +126,5 @@ module _ (xs : List ℕ) where
           ap (λ (a : Answer). a .number) (parsed-payload (eqb-true _ _ e) k .0)
           ∙ (later-number 6 (readPayload (drop 6 xs)) ∙ contents-number (drop 6 xs) _ refl .0)
       go true e false k =
-          ap (λ (a : Answer). a .number) (bare-payload (eqb-true _ _ e) k .0 ∙ headed-done xs (answer 0 []) (eqb-true _ _ e) .1 _)
+          ap (λ (a : Answer). a .number) (bare-payload (eqb-true _ _ e) k .0 ∙ headed-done xs (answer 0 []) (eqb-true _ _ e) .is _)
       go false e b k = ap (λ (a : Answer). a .number) (refused-payload (eqb-false _ _ e) .0)

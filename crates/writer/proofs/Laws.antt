@@ -16,7 +16,7 @@ use Rattle.bits.specs.Pack.{Part, joined, bytesOf, number}
 use Rattle.bits.proofs.Packs.{written, length-bytesOf}
 use Rattle.bits.proofs.Parts.{part-rest, placed-none, placed-at, length-placed, placed-append}
 use Rattle.pes.specs.Stream.{readId, parsedId}
-use Rattle.pes.proofs.Theorems.{kind-agrees}
+use Rattle.pes.proofs.Laws.{kind-agrees}
 use Rattle.timestamp.specs.Stamp.{stampBytes}
 use Rattle.timestamp.proofs.Theorems.{stamp-length}
 use Rattle.writer.specs.declared.Route.{Route}

@@ -1,20 +1,7 @@
-use native.Mathlib.Omega.{arith}
-use Rattle.contents.proofs.Laws.{accepted, refused, fixed-done}
-use Rattle.bits.proofs.Fields.{byte-field}
-use borrow.Author.Needs.{needs}
+use Rattle.contents.proofs.Laws.{contents-laws}
 use Rattle.contents.proofs.pes_header_data_len.Statement.{statement}
 use Rattle.contents.proofs.pes_header_data_len.Tie as tie
 
-shared-slice-read-t6 : tie.Need-shared-slice-read-t6
-shared-slice-read-t6 c = omega (arith, accepted _ _ (c .before .enum-told .given .1) (c .before .before .before .from-bytes .ensures) .fixed)
-
-returns : tie.Need-returns
-returns c = refused _ _ _ (c .before .r .given .1) (c .before .before .before .from-bytes .ensures) _
-
-returns-2 : tie.Need-returns-2
-returns-2 c = fixed-done (accepted _ _ (c .before .enum-told .given .1) (c .before .before .before .from-bytes .ensures)) (byte-field _ 2 (omega (arith, c .shared-slice-known2 .given 2)))
-
 pub pes-header-data-len-spec : {M : Type 1} → statement M
 pes-header-data-len-spec =
-    tie.close
-    (tie.spec (λ c κs. search needs) (λ c. search needs) (λ c. search needs) shared-slice-read-t6 returns returns-2)
+    tie.close (tie.spec (λ c κs. search contents-laws) (λ c. search contents-laws) (λ c. search contents-laws) (λ c. search contents-laws) (λ c. search contents-laws) (λ c. search contents-laws))

@@ -1,19 +1,9 @@
-use native.Mathlib.Omega.{arith}
-use Rattle.packet.proofs.Laws.{wrong-length, no-sync, value-done}
-use borrow.Author.Needs.{needs}
+use Rattle.packet.proofs.Laws.{packet-laws}
 use Rattle.packet.proofs.adaptation_control.Statement.{statement}
 use Rattle.packet.proofs.adaptation_control.Tie as tie
-
-returns : tie.Need-returns
-returns c = wrong-length _ _ (omega arith)
-
-returns-2 : tie.Need-returns-2
-returns-2 c = no-sync _ _ (omega arith)
-
-returns-3 : tie.Need-returns-3
-returns-3 c = value-done _ _ _ (omega arith) (c .new .ensures)
 
 pub adaptation-control-spec : {M : Type 1} → statement M
 adaptation-control-spec =
     tie.close
-    (tie.spec returns (λ c. search needs) returns-2 (λ c. search needs) (λ c κs. search needs) returns-3)
+    (tie.spec (λ c. search packet-laws) (λ c. search packet-laws) (λ c. search packet-laws) (λ c. search packet-laws) (λ c κs. search packet-laws)
+    (λ c. search packet-laws))

@@ -1,27 +1,9 @@
-use mathlib.Core.Path.{_∙_}
-use native.Mathlib.Omega.{arith}
-use Rattle.packet.proofs.Laws.{wrong-length, no-sync, value-done, pid-is}
-use borrow.Author.Needs.{needs}
+use Rattle.packet.proofs.Laws.{packet-laws}
 use Rattle.packet.proofs.pid.Statement.{statement}
 use Rattle.packet.proofs.pid.Tie as tie
-
-returns : tie.Need-returns
-returns c = wrong-length _ _ (omega arith)
-
-returns-2 : tie.Need-returns-2
-returns-2 c = no-sync _ _ (omega arith)
-
-returns-3 : tie.Need-returns-3
-returns-3 c = value-done _ _ _ (omega arith) (c .from-bytes .ensures ∙ pid-is _)
 
 pub pid-spec : {M : Type 1} → statement M
 pid-spec =
     tie.close
-    (tie.spec
-    returns
-    (λ c. search needs)
-    returns-2
-    (λ c. search needs)
-    (λ c. search needs)
-    (λ c κs. search needs)
-    returns-3)
+    (tie.spec (λ c. search packet-laws) (λ c. search packet-laws) (λ c. search packet-laws) (λ c. search packet-laws) (λ c. search packet-laws)
+    (λ c κs. search packet-laws) (λ c. search packet-laws))

@@ -1,20 +1,8 @@
-use mathlib.Core.Path.{ap}
-use Rattle.bits.specs.Answer.{truth}
-use native.Mathlib.Omega.{arith}
-use Rattle.packet.proofs.Laws.{wrong-length, no-sync, value-done, priority-bit}
-use borrow.Author.Needs.{needs}
+use Rattle.packet.proofs.Laws.{packet-laws}
 use Rattle.packet.proofs.transport_priority.Statement.{statement}
 use Rattle.packet.proofs.transport_priority.Tie as tie
 
-returns : tie.Need-returns
-returns c = wrong-length _ _ (omega arith)
-
-returns-2 : tie.Need-returns-2
-returns-2 c = no-sync _ _ (omega arith)
-
-returns-3 : tie.Need-returns-3
-returns-3 c = value-done _ _ _ (omega arith) (ap truth (priority-bit _))
-
 pub transport-priority-spec : {M : Type 1} → statement M
 transport-priority-spec =
-    tie.close (tie.spec returns (λ c. search needs) returns-2 (λ c. search needs) returns-3)
+    tie.close
+    (tie.spec (λ c. search packet-laws) (λ c. search packet-laws) (λ c. search packet-laws) (λ c. search packet-laws) (λ c. search packet-laws))
