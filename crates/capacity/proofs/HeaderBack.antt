@@ -18,6 +18,7 @@ use Rattle.timestamp.proofs.Theorems.{read-back, stamp-length}
 use Rattle.pes.specs.Stream.{parsedId}
 use Rattle.pes.specs.Head.{notHead, idOf, packetLength}
 use Rattle.contents.specs.Contents.{dataLength, timesSize, escrAt, rateAt, trickAt, copyInfoAt, crcAt, fieldsEnd, payloadAt, readFixed}
+use Rattle.contents.specs.Contents.{scramblingBit, dataLengthBit}
 use Rattle.contents.specs.Contents.{readPtsDts, escrBase, escrExtension, readEscr, rateOf, readEsRate, readCopyInfo, readCrc, readExtension}
 use Rattle.contents.specs.Trick.{readRawTrick}
 use Rattle.contents.proofs.Laws.{Accepted, contents-is, field-off, field-on}
@@ -359,7 +360,7 @@ module _ (u : Unit) (n : ℕ) (ok : UnitFits u n) (pay : List ℕ) where
       simp (headed-back, p, accepted-back .is) (ap (take (length c - payloadAt c)) e ∙ take-all (length c - payloadAt c) pay l)
 
   -- nothing that the unit does not name is set: no scrambling, no extension, no stuffing
-  pub rest-given : (readFixed 2 2 c ≡ answer 0 (0 ∷ [])) × (readFixed 16 8 c ≡ answer 0 (dataOf u ∷ [])) × (readExtension c ≡ answer 9 [])
+  pub rest-given : (readFixed scramblingBit 2 c ≡ answer 0 (0 ∷ [])) × (readFixed dataLengthBit 8 c ≡ answer 0 (dataOf u ∷ [])) × (readExtension c ≡ answer 9 [])
   unfolding dataLength
   rest-given =
       let a = accepted-back in

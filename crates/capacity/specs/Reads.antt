@@ -8,6 +8,7 @@ use lib.Dec.{eqb}
 use Rattle.bits.specs.Answer.{Answer, answer, pick, truth, All}
 use Rattle.bits.specs.Numbers.{done, fieldNotPresent}
 use Rattle.pes.specs.Head.{readHead, idOf}
+use Rattle.contents.specs.Contents.{priorityBit, alignmentBit, copyrightBit, originalBit}
 use Rattle.contents.specs.Contents.{readContents, readFixed, readPtsDts, readEscr, readEsRate, readCopyInfo, readCrc}
 use Rattle.contents.specs.Trick.{readRawTrick}
 use Rattle.pes_header.specs.Payload.{payloadBytes}
@@ -74,10 +75,10 @@ pub record HasFields (u : Unit) (xs : List ℕ) : Type 0 where
   pub head : readHead xs ≡ answer done []
   pub id : idOf xs ≡ u .id
   pub accepted : readContents (contents xs) ≡ answer done []
-  pub priority : readFixed 4 1 (contents xs) ≡ givenBit (u .priority)
-  pub alignment : readFixed 5 1 (contents xs) ≡ givenBit (u .alignment)
-  pub copyright : readFixed 6 1 (contents xs) ≡ givenBit (u .copyright)
-  pub original : readFixed 7 1 (contents xs) ≡ givenBit (u .original)
+  pub priority : readFixed priorityBit 1 (contents xs) ≡ givenBit (u .priority)
+  pub alignment : readFixed alignmentBit 1 (contents xs) ≡ givenBit (u .alignment)
+  pub copyright : readFixed copyrightBit 1 (contents xs) ≡ givenBit (u .copyright)
+  pub original : readFixed originalBit 1 (contents xs) ≡ givenBit (u .original)
   pub times : readPtsDts (contents xs) ≡ givenTimes (u .times)
   pub escr : readEscr (contents xs) ≡ givenEscr (u .escr)
   pub rate : readEsRate (contents xs) ≡ givenField (rateField (u .rate))

@@ -12,12 +12,12 @@ use denote.Enum.Declared.{tagOf}
 use lib.ListN.{length, getD, take, drop, length-drop}
 use lib.Dec.{eqb, ltb}
 use lib.Seq.{drop-cons, getD-drop}
-use borrow.Author.Tests.{lt-ltb, le-ltb, eq-eqb, ne-eqb, ltb-false}
+use borrow.Author.Tests.{lt-ltb, le-ltb, eq-eqb, ne-eqb, ltb-false, eqb-true, eqb-false}
 use Rattle.bits.specs.Answer.{Answer, answer, pick, truth, other, unless, Within, partAt, partOf}
 use Rattle.bits.specs.Field.{bit, field, flag}
 use Rattle.bits.proofs.Checks.{Off, none-holds, first-holds, ne-other, eq-other, passed, refused-by, unless-within}
 use Rattle.bits.proofs.Fields.{in-byte, field-split, byte-field, field-below, field-left, bit-left}
-use Rattle.bits.proofs.Fields.{bit-truth, first-left, field-one, bitOf, Known, byte-wide}
+use Rattle.bits.proofs.Fields.{bit-truth, first-left, field-one, bit-below, bitOf, Known, byte-wide}
 use borrow.Author.Needs.{needs}
 use Rattle.bits.proofs.Parts.{part-rest, part-refused, part-done}
 use Rattle.bits.proofs.Tests.{limited-in, limited-out, limited-value, limited-refused}
@@ -38,6 +38,7 @@ use Rattle.contents.specs.declared.PartRead.{PartRead}
 use Rattle.contents.proofs.PartRead.{the-type}
 use Rattle.contents.specs.Given.{refusal, givenContents, givenStamp, givenPtsDts, givenEscr, givenPart}
 use Rattle.contents.specs.Contents.{dataLength, timesSize, escrAt, rateAt, trickAt, copyInfoAt, crcAt, fieldsEnd, payloadAt, notContents}
+use Rattle.contents.specs.Contents.{ptsBit, dtsBit, escrBit, rateBit, trickBit, copyInfoBit, crcBit, extensionBit}
 use Rattle.contents.specs.Contents.{flagged, readContents, readPtsDts, escrBase, escrExtension, escrAnswer, rateOf, readEscr}
 use Rattle.contents.specs.Contents.{readEsRate, readCopyInfo, readCrc, readExtension, readPayload, makeRate, rateBytes}
 use Rattle.contents.specs.Trick.{control, trickOf, trickByte, truncationBits, readTrick, readRawTrick}
@@ -49,17 +50,88 @@ module _ (c : List ℕ) where
   unfolding payloadAt dataLength
   payload-at h = ap (λ (n : ℕ). 3 + n) (sym (byte-field c 2 h))
 
-  pub times-none : getD c 1 0 / 64 < 2 → 3 ≡ escrAt c
-  unfolding escrAt timesSize bit
-  times-none h = simp (ne-eqb (bit c 8) 1 (omega arith))
+  -- a flag as a reader tests it
+  module _ (i : ℕ) (f : Bool) (e : f ≡ flag c i) where
+    set : f ≡ true → bit c i ≡ 1
+    set n = eqb-true (bit c i) 1 (sym e ∙ n)
 
-  pub times-one : getD c 1 0 / 64 ≡ 2 → 8 ≡ escrAt c
-  unfolding escrAt timesSize bit
-  times-one h = simp (eq-eqb (bit c 8) 1 (omega arith)) (omega arith)
+    clear : f ≡ false → bit c i ≡ 0
+    clear n = omega (arith, bit-below c i, eqb-false (bit c i) 1 (sym e ∙ n))
 
-  pub times-two : getD c 1 0 / 64 ≡ 3 → 13 ≡ escrAt c
-  unfolding escrAt timesSize bit
-  times-two h = simp (eq-eqb (bit c 8) 1 (omega arith)) (omega arith)
+  -- the two flags of the timestamps
+  module _ (f : ℕ) (e : f ≡ field c ptsBit 2) where
+    two-flags : (f ≡ bit c ptsBit * 2 + bit c dtsBit) × (bit c ptsBit < 2) × (bit c dtsBit < 2)
+    unfolding field
+    two-flags = omega (arith, bit-below c ptsBit, bit-below c dtsBit)
+
+    pub times-none : f < 2 → 3 ≡ escrAt c
+    unfolding escrAt timesSize
+    times-none h = simp (ne-eqb (bit c 8) 1 (omega (arith, two-flags)))
+
+    pub times-one : f ≡ 2 → 8 ≡ escrAt c
+    unfolding escrAt timesSize
+    times-one h = simp (eq-eqb (bit c 8) 1 (omega (arith, two-flags))) (omega (arith, two-flags))
+
+    pub times-two : f ≡ 3 → 13 ≡ escrAt c
+    unfolding escrAt timesSize
+    times-two h = simp (eq-eqb (bit c 8) 1 (omega (arith, two-flags))) (omega (arith, two-flags))
+
+    pub times-other : 2 ≤ f → (f ≡ 3 → ⊥) → 8 ≡ escrAt c
+    times-other h n = times-one (omega (arith, two-flags))
+
+  -- where the field after one that its flag says is there, or is not, stands
+  module _ (at : ℕ) (f : Bool) where
+    pub escr-skipped : at ≡ escrAt c → f ≡ flag c escrBit → f ≡ false → at ≡ rateAt c
+    unfolding rateAt
+    escr-skipped p e n = omega (arith, clear escrBit f e n)
+
+    pub escr-passed : at ≡ escrAt c → f ≡ flag c escrBit → f ≡ true → at + 6 ≡ rateAt c
+    unfolding rateAt
+    escr-passed p e n = omega (arith, set escrBit f e n)
+
+    pub rate-skipped : at ≡ rateAt c → f ≡ flag c rateBit → f ≡ false → at ≡ trickAt c
+    unfolding trickAt
+    rate-skipped p e n = omega (arith, clear rateBit f e n)
+
+    pub rate-passed : at ≡ rateAt c → f ≡ flag c rateBit → f ≡ true → at + 3 ≡ trickAt c
+    unfolding trickAt
+    rate-passed p e n = omega (arith, set rateBit f e n)
+
+    pub trick-skipped : at ≡ trickAt c → f ≡ flag c trickBit → f ≡ false → at ≡ copyInfoAt c
+    unfolding copyInfoAt
+    trick-skipped p e n = omega (arith, clear trickBit f e n)
+
+    pub trick-passed : at ≡ trickAt c → f ≡ flag c trickBit → f ≡ true → at + 1 ≡ copyInfoAt c
+    unfolding copyInfoAt
+    trick-passed p e n = omega (arith, set trickBit f e n)
+
+    pub copy-skipped : at ≡ copyInfoAt c → f ≡ flag c copyInfoBit → f ≡ false → at ≡ crcAt c
+    unfolding crcAt
+    copy-skipped p e n = omega (arith, clear copyInfoBit f e n)
+
+    pub copy-passed : at ≡ copyInfoAt c → f ≡ flag c copyInfoBit → f ≡ true → at + 1 ≡ crcAt c
+    unfolding crcAt
+    copy-passed p e n = omega (arith, set copyInfoBit f e n)
+
+    pub crc-skipped : at ≡ crcAt c → f ≡ flag c crcBit → f ≡ false → at ≡ fieldsEnd c
+    unfolding fieldsEnd
+    crc-skipped p e n = omega (arith, clear crcBit f e n)
+
+    pub crc-passed : at ≡ crcAt c → f ≡ flag c crcBit → f ≡ true → at + 2 ≡ fieldsEnd c
+    unfolding fieldsEnd
+    crc-passed p e n = omega (arith, set crcBit f e n)
+
+  -- the second byte's flags, as the code takes them off it
+  pub first-flags : Known c → getD c 1 0 / 64 ≡ field c ptsBit 2
+  first-flags k = omega (arith, in-byte c 1 0 2 6 refl, k 1)
+
+  pub flag-at : (i : ℕ) (t : Bool) → t ≡ eqb (bitOf c i) 1 → t ≡ flag c i
+  unfolding bit
+  flag-at i t e = e
+
+  pub last-flag : eqb (getD c 1 0 % 2) 1 ≡ flag c extensionBit
+  unfolding bit
+  last-flag = rw div-one
 
 -- ---- contents that are refused, and those that are not
 
@@ -272,9 +344,6 @@ module _ (c : List ℕ) where
   pub end-small : Known c → 3 + getD c 2 0 ≤ 258
   end-small k = omega (arith, k 2)
 
-  pub times-other : Known c → 2 ≤ getD c 1 0 / 64 → (getD c 1 0 / 64 ≡ 3 → ⊥) → 8 ≡ escrAt c
-  times-other k h n = times-one c (omega (arith, k 1))
-
   pub all-on : (p q : ℕ) → p ≡ payloadAt c → q ≡ fieldsEnd c → 3 ≤ length c → getD c 0 0 / 64 ≡ 2 → p ≤ length c → q ≤ p → answer 0 [] ≡ readContents c
   all-on p q e f h n l m = sym (contents-is c _ (omega arith))
 
@@ -291,13 +360,8 @@ module _ (c : List ℕ) (ok : Accepted c) where
   pub third-there : 2 < length c
   third-there = omega (arith, three-there)
 
-  pub off : (i : ℕ) (a : Answer) → bitOf c i ≡ 0 → answer 9 [] ≡ flagged i c a
-  unfolding bit
-  off i a h = field-off c i a ok h
-
-  pub last-off : (a : Answer) → getD c 1 0 % 2 ≡ 0 → answer 9 [] ≡ flagged 15 c a
-  unfolding bit
-  last-off a h = field-off c 15 a ok (omega arith)
+  pub off : (i : ℕ) (a : Answer) (f : Bool) → f ≡ flag c i → f ≡ false → answer 9 [] ≡ flagged i c a
+  off i a f e n = field-off c i a ok (clear c i f e n)
 
   pub priority-done : answer 0 (getD c 0 0 / 8 % 2 ∷ []) ≡ unless (notContents c) (answer 0 (field c 4 1 ∷ []))
   priority-done = fixed-done ok (in-byte c 0 4 1 3 refl)
@@ -325,93 +389,90 @@ module _ (c : List ℕ) (ok : Accepted c) where
   pub last-one : (getD c 0 0 % 2 ≡ 0 → ⊥) → answer 0 (1 ∷ []) ≡ unless (notContents c) (answer 0 (field c 7 1 ∷ []))
   last-one h = fixed-done ok (in-byte c 0 7 1 0 refl ∙ omega arith)
 
-  pub times-absent : getD c 1 0 / 64 ≡ 0 → answer 9 [] ≡ readPtsDts c
-  unfolding readPtsDts bit
-  times-absent h = sym (ok .is _ ∙ simp (ne-eqb (bit c 8) 1 (omega arith), ne-eqb (bit c 9) 1 (omega arith)))
+  module _ (f : ℕ) (e : f ≡ field c ptsBit 2) where
+    pub times-absent : f ≡ 0 → answer 9 [] ≡ readPtsDts c
+    unfolding readPtsDts
+    times-absent h = sym (ok .is _ ∙ simp (ne-eqb (bit c 8) 1 (omega (arith, two-flags c f e)), ne-eqb (bit c 9) 1 (omega (arith, two-flags c f e))))
 
-  pub times-invalid : getD c 1 0 / 64 ≡ 1 → answer 10 [] ≡ readPtsDts c
-  unfolding readPtsDts bit
-  times-invalid h = sym (ok .is _ ∙ simp (ne-eqb (bit c 8) 1 (omega arith), eq-eqb (bit c 9) 1 (omega arith)))
+    pub times-invalid : f ≡ 1 → answer 10 [] ≡ readPtsDts c
+    unfolding readPtsDts
+    times-invalid h = sym (ok .is _ ∙ simp (ne-eqb (bit c 8) 1 (omega (arith, two-flags c f e)), eq-eqb (bit c 9) 1 (omega (arith, two-flags c f e))))
 
-  pub pts-alone : (p : StampRead) → getD c 1 0 / 64 ≡ 2 → givenStamp p ≡ readStamp (drop 3 c) → givenPtsDts (PtsDts.PtsOnly p) ≡ readPtsDts c
-  unfolding readPtsDts bit
-  pts-alone p h f = sym (ok .is _ ∙ simp (eq-eqb (bit c 8) 1 (omega arith), ne-eqb (bit c 9) 1 (omega arith), ← f))
+    pub pts-alone : (p : StampRead) → f ≡ 2 → givenStamp p ≡ readStamp (drop 3 c) → givenPtsDts (PtsDts.PtsOnly p) ≡ readPtsDts c
+    unfolding readPtsDts
+    pts-alone p h q =
+        sym (ok .is _ ∙ simp (eq-eqb (bit c 8) 1 (omega (arith, two-flags c f e)), ne-eqb (bit c 9) 1 (omega (arith, two-flags c f e)), ← q))
 
-  pub pts-and-dts : (p q : StampRead) → Known c → (getD c 1 0 / 64 ≡ 0 → ⊥) → (getD c 1 0 / 64 ≡ 1 → ⊥) → (getD c 1 0 / 64 ≡ 2 → ⊥)
-      → givenStamp p ≡ readStamp (drop 3 c) → givenStamp q ≡ readStamp (drop 8 c) → givenPtsDts (PtsDts.Both p q) ≡ readPtsDts c
-  unfolding readPtsDts bit
-  pts-and-dts p q k a b d f h =
-      sym (ok .is _ ∙ simp (eq-eqb (bit c 8) 1 (omega (arith, k 1)), eq-eqb (bit c 9) 1 (omega (arith, k 1)), ← f, ← h))
+    pub pts-and-dts : (p q : StampRead) → (f ≡ 0 → ⊥) → (f ≡ 1 → ⊥) → (f ≡ 2 → ⊥)
+        → givenStamp p ≡ readStamp (drop 3 c) → givenStamp q ≡ readStamp (drop 8 c) → givenPtsDts (PtsDts.Both p q) ≡ readPtsDts c
+    unfolding readPtsDts
+    pts-and-dts p q x y z r s =
+        sym (ok .is _ ∙ simp (eq-eqb (bit c 8) 1 (omega (arith, two-flags c f e)), eq-eqb (bit c 9) 1 (omega (arith, two-flags c f e)), ← r, ← s))
 
-  module _ (at : ℕ) (p : at ≡ escrAt c) (h : getD c 1 0 / 32 % 2 ≡ 0 → ⊥) where
+  module _ (at : ℕ) (p : at ≡ escrAt c) (f : Bool) (e : f ≡ flag c escrBit) (n : f ≡ true) where
     pub escr-start : at ≤ length c
-    unfolding fieldsEnd crcAt copyInfoAt trickAt rateAt bit
-    escr-start = omega arith
+    unfolding fieldsEnd crcAt copyInfoAt trickAt rateAt
+    escr-start = omega (arith, set c escrBit f e n)
 
     pub escr-room : 6 ≤ length (take (length c - at) (drop at c))
-    unfolding fieldsEnd crcAt copyInfoAt trickAt rateAt bit
-    escr-room = rw (part-rest at c, length-drop) (omega arith)
+    unfolding fieldsEnd crcAt copyInfoAt trickAt rateAt
+    escr-room = rw (part-rest at c, length-drop) (omega (arith, set c escrBit f e n))
 
     pub escr-done : (x : EscrRead) → givenEscr x ≡ escrAnswer (take (length c - at) (drop at c)) → givenEscr x ≡ readEscr c
-    unfolding bit
-    escr-done x f = rw (f, part-rest at c, p) (sym (field-on c 10 _ ok (omega arith)))
+    escr-done x g = rw (g, part-rest at c, p) (sym (field-on c escrBit _ ok (set c escrBit f e n)))
 
-  module _ (at : ℕ) (p : at ≡ rateAt c) (h : getD c 1 0 / 16 % 2 ≡ 0 → ⊥) where
+  module _ (at : ℕ) (p : at ≡ rateAt c) (f : Bool) (e : f ≡ flag c rateBit) (n : f ≡ true) where
     pub rate-first : at < length c
-    unfolding fieldsEnd crcAt copyInfoAt trickAt bit
-    rate-first = omega arith
+    unfolding fieldsEnd crcAt copyInfoAt trickAt
+    rate-first = omega (arith, set c rateBit f e n)
 
     pub rate-later : (k : ℕ) → k < 3 → at + k < length c
-    unfolding fieldsEnd crcAt copyInfoAt trickAt bit
-    rate-later k l = omega arith
+    unfolding fieldsEnd crcAt copyInfoAt trickAt
+    rate-later k l = omega (arith, set c rateBit f e n)
 
     pub rate-done : (u v w : ℕ) → (u ≡ getD c at 0) × (u < 256) → (v ≡ getD c (at + 1) 0) × (v < 256) → (w ≡ getD c (at + 2) 0) × (w < 256)
         → answer 0 ((u % 128 * 32768 + v * 128 + w / 2) ∷ []) ≡ readEsRate c
-    unfolding bit
     rate-done u v w i j k =
         let q : u % 128 * 32768 + v * 128 + w / 2 ≡ rateOf (drop at c) = omega (arith, rate-of c at) in
-        rw (q, p) (sym (field-on c 11 _ ok (omega arith)))
+        rw (q, p) (sym (field-on c rateBit _ ok (set c rateBit f e n)))
 
-  module _ (at : ℕ) (p : at ≡ trickAt c) (h : getD c 1 0 / 8 % 2 ≡ 0 → ⊥) where
+  module _ (at : ℕ) (p : at ≡ trickAt c) (f : Bool) (e : f ≡ flag c trickBit) (n : f ≡ true) where
     pub trick-first : at < length c
-    unfolding fieldsEnd crcAt copyInfoAt bit
-    trick-first = omega arith
+    unfolding fieldsEnd crcAt copyInfoAt
+    trick-first = omega (arith, set c trickBit f e n)
 
     pub trick-done : (t : List ℕ) → t ≡ trickByte (getD c at 0) → answer 0 t ≡ readTrick c
-    unfolding bit
-    trick-done t f = rw (f, ← trick-of c at trick-first, p) (sym (field-on c 12 _ ok (omega arith)))
+    trick-done t g = rw (g, ← trick-of c at trick-first, p) (sym (field-on c trickBit _ ok (set c trickBit f e n)))
 
     pub raw-done : Known c → answer 0 (getD c at 0 ∷ []) ≡ readRawTrick c
-    unfolding bit
-    raw-done k = rw (← first-left at c, ← byte-field (drop at c) 0 (omega (arith, first-left at c, k at)), p) (sym (field-on c 12 _ ok (omega arith)))
+    raw-done k = rw (← first-left at c, ← byte-field (drop at c) 0 (omega (arith, first-left at c, k at)), p) (sym (field-on c trickBit _ ok (set c trickBit f e n)))
 
-  module _ (at : ℕ) (p : at ≡ copyInfoAt c) (h : getD c 1 0 / 4 % 2 ≡ 0 → ⊥) where
+  module _ (at : ℕ) (p : at ≡ copyInfoAt c) (f : Bool) (e : f ≡ flag c copyInfoBit) (n : f ≡ true) where
     pub copy-first : at < length c
-    unfolding fieldsEnd crcAt bit
-    copy-first = omega arith
+    unfolding fieldsEnd crcAt
+    copy-first = omega (arith, set c copyInfoBit f e n)
 
     pub copy-marker : getD c at 0 / 128 ≡ 0 → answer 12 (0 ∷ []) ≡ readCopyInfo c
     unfolding bit
-    copy-marker m = sym (field-on c 13 _ ok (omega arith) ∙ rw (← p, ne-eqb (bit (drop at c) 0) 1 (omega (arith, first-left at c))))
+    copy-marker m = sym (field-on c copyInfoBit _ ok (set c copyInfoBit f e n) ∙ rw (← p, ne-eqb (bit (drop at c) 0) 1 (omega (arith, first-left at c))))
 
     pub copy-done : Known c → (getD c at 0 / 128 ≡ 0 → ⊥) → answer 0 (getD c at 0 % 128 ∷ []) ≡ readCopyInfo c
     unfolding bit
     copy-done k m =
         let q : field (drop at c) 1 7 ≡ getD c at 0 % 128 = omega (arith, in-byte (drop at c) 0 1 7 0 refl, first-left at c) in
-        sym (field-on c 13 _ ok (omega arith) ∙ rw (← p, eq-eqb (bit (drop at c) 0) 1 (omega (arith, first-left at c, k at)), q))
+        sym (field-on c copyInfoBit _ ok (set c copyInfoBit f e n) ∙ rw (← p, eq-eqb (bit (drop at c) 0) 1 (omega (arith, first-left at c, k at)), q))
 
-  module _ (at : ℕ) (p : at ≡ crcAt c) (h : getD c 1 0 / 2 % 2 ≡ 0 → ⊥) where
+  module _ (at : ℕ) (p : at ≡ crcAt c) (f : Bool) (e : f ≡ flag c crcBit) (n : f ≡ true) where
     pub crc-first : at < length c
-    unfolding fieldsEnd bit
-    crc-first = omega arith
+    unfolding fieldsEnd
+    crc-first = omega (arith, set c crcBit f e n)
 
     pub crc-later : (k : ℕ) → k < 2 → at + k < length c
-    unfolding fieldsEnd bit
-    crc-later k l = omega arith
+    unfolding fieldsEnd
+    crc-later k l = omega (arith, set c crcBit f e n)
 
     pub crc-done : (u v : ℕ) → (u ≡ getD c at 0) × (u < 256) → (v ≡ getD c (at + 1) 0) × (v < 256) → answer 0 ((u * 256 + v) ∷ []) ≡ readCrc c
-    unfolding bit
-    crc-done u v i j = let q : u * 256 + v ≡ field (drop at c) 0 16 = omega (arith, crc-of c at) in rw (q, p) (sym (field-on c 14 _ ok (omega arith)))
+    crc-done u v i j = let q : u * 256 + v ≡ field (drop at c) 0 16 = omega (arith, crc-of c at) in rw (q, p) (sym (field-on c crcBit _ ok (set c crcBit f e n)))
 
   module _ (end : ℕ) (p : end ≡ payloadAt c) where
     pub end-in : end ≤ length c
@@ -424,22 +485,21 @@ module _ (c : List ℕ) (ok : Accepted c) where
       pub fields-in : at ≤ end
       fields-in = omega (arith, ok .fields)
 
-      pub extension-done : (getD c 1 0 % 2 ≡ 0 → ⊥) → answer 0 (at ∷ (end - at) ∷ []) ≡ readExtension c
-      unfolding bit
-      extension-done h = rw (p, q) (sym (field-on c 15 _ ok (omega arith)))
+      pub extension-done : (f : Bool) → f ≡ flag c extensionBit → f ≡ true → answer 0 (at ∷ (end - at) ∷ []) ≡ readExtension c
+      extension-done f e n = rw (p, q) (sym (field-on c extensionBit _ ok (set c extensionBit f e n)))
 
 times-fit : (c : List ℕ) → Accepted c → escrAt c ≤ length c
 unfolding fieldsEnd crcAt copyInfoAt trickAt rateAt
 times-fit c ok = omega arith
 
 -- by the answer itself: `accepted` below a law that has four more premises is too far for one `search`
-module _ (c : List ℕ) (r : ContentsRead) (e : r ≡ ContentsRead.Done) (g : givenContents r ≡ readContents c) where
-  pub pts-there : getD c 1 0 / 64 ≡ 2 → 8 ≤ length c
-  pts-there h = omega (arith, times-one c h, times-fit c (accepted c r e g))
+module _ (c : List ℕ) (r : ContentsRead) (e : r ≡ ContentsRead.Done) (g : givenContents r ≡ readContents c) (f : ℕ) (q : f ≡ field c ptsBit 2) where
+  pub pts-there : f ≡ 2 → 8 ≤ length c
+  pts-there h = omega (arith, times-one c f q h, times-fit c (accepted c r e g))
 
-  module _ (k : Known c) (a : getD c 1 0 / 64 ≡ 0 → ⊥) (b : getD c 1 0 / 64 ≡ 1 → ⊥) (d : getD c 1 0 / 64 ≡ 2 → ⊥) where
+  module _ (x : f ≡ 0 → ⊥) (y : f ≡ 1 → ⊥) (z : f ≡ 2 → ⊥) where
     pub dts-there : 13 ≤ length c
-    dts-there = omega (arith, times-two c (omega (arith, k 1)), times-fit c (accepted c r e g))
+    dts-there = omega (arith, times-two c f q (omega (arith, two-flags c f q)), times-fit c (accepted c r e g))
 
     pub first-of-two : 8 ≤ length c
     first-of-two = omega (arith, dts-there)
@@ -522,4 +582,21 @@ module _ (b : ℕ) (l : b < 256) where
   reserved-mode p q x y z =
       simp (control-is (b / 32) refl, ne-eqb (b / 32) 0 p, ne-eqb (b / 32) 1 q, ne-eqb (b / 32) 2 x, ne-eqb (b / 32) 3 y, ne-eqb (b / 32) 4 z)
 
-pub ruleset contents-laws = (accepted, clock-done, clock-out, byte-wide, sum-wide, end-at, end-small, rate-in, rate-out, bytes-in, bytes-out, times-none, times-two, times-other, short, bad-check, past-buffer, past-header, all-on, refused, refused-field, refused-times, three-there, first-there, second-there, third-there, off, last-off, priority-done, scrambling-done, flags-done, length-done, bit-zero, bit-one, last-zero, last-one, times-absent, times-invalid, pts-there, pts-alone, dts-there, first-of-two, pts-and-dts, escr-start, escr-room, escr-done, rate-first, rate-later, rate-done, trick-first, trick-done, raw-done, copy-first, copy-marker, copy-done, crc-first, crc-later, crc-done, end-in, payload-done, fields-in, extension-done, stamp-done, stamp-marker, stamp-short, stamp-prefix, no-part, extension-part, payload-part, fast-forward, slow-motion, freeze-frame, fast-reverse, slow-reverse, reserved-mode, needs)
+pub ruleset contents-laws = (accepted, clock-done, clock-out, byte-wide, sum-wide, end-at, end-small, rate-in, rate-out, bytes-in, bytes-out, times-none, times-two, times-other, escr-skipped, escr-passed, rate-skipped, rate-passed, trick-skipped, trick-passed, copy-skipped, copy-passed, crc-skipped, crc-passed, first-flags, flag-at, last-flag, short, bad-check, past-buffer, past-header, all-on, refused, three-there, first-there, second-there, third-there, priority-done, scrambling-done, flags-done, length-done, bit-zero, bit-one, last-zero, last-one, end-in, payload-done, stamp-done, stamp-marker, stamp-short, stamp-prefix, no-part, extension-part, payload-part, fast-forward, slow-motion, freeze-frame, fast-reverse, slow-reverse, reserved-mode, needs)
+
+-- those of one flagged field, so that `search` has less to compare
+pub ruleset field-laws = (accepted, refused-field, three-there, off, needs)
+
+pub ruleset times-laws = (accepted, refused-times, three-there, times-absent, times-invalid, pts-there, pts-alone, dts-there, first-of-two, pts-and-dts, needs)
+
+pub ruleset escr-laws = (escr-start, escr-room, escr-done, field-laws)
+
+pub ruleset rate-laws = (rate-first, rate-later, rate-done, field-laws)
+
+pub ruleset trick-laws = (trick-first, trick-done, raw-done, field-laws)
+
+pub ruleset copy-laws = (copy-first, copy-marker, copy-done, field-laws)
+
+pub ruleset crc-laws = (crc-first, crc-later, crc-done, field-laws)
+
+pub ruleset extension-laws = (fields-in, extension-done, field-laws)

@@ -35,7 +35,7 @@ use Rattle.contents.specs.declared.FieldRead.{FieldRead}
 use Rattle.contents.specs.declared.CopyInfoRead.{CopyInfoRead}
 use Rattle.contents.specs.declared.CrcRead.{CrcRead}
 use Rattle.contents.specs.declared.PartRead.{PartRead}
-use Rattle.contents.specs.Given.{refusal, givenContents, givenByte, givenAlignment, copyrightBit, standardCopyright, givenCopyright}
+use Rattle.contents.specs.Given.{refusal, givenContents, givenByte, givenAlignment, statusBit, standardCopyright, givenCopyright}
 use Rattle.contents.specs.Given.{givenOriginal, givenStamp, givenPtsDts, givenEscr}
 use Rattle.contents.specs.Given.{givenRateMade, givenRateNumber, givenEsRate, truncation, trickValues, givenTrick, givenField}
 use Rattle.contents.specs.Given.{givenCopyInfo, givenCrc, givenPart}
@@ -280,7 +280,7 @@ one-part = one-answer givenPart (back partBack PartRead.Refused) partBack-given
 -- ---- the original's sense and the standard's
 
 -- of the copyright bit they never agree
-pub copyright-never : (k : CopyrightStatus) (b : ℕ) → copyrightBit k ≡ b → standardCopyright b ≡ k → ⊥
+pub copyright-never : (k : CopyrightStatus) (b : ℕ) → statusBit k ≡ b → standardCopyright b ≡ k → ⊥
 copyright-never CopyrightStatus.Undefined b e f = let z : _≡_ {A = ℕ} 0 1 = cc (ap standardCopyright e) in omega arith
 copyright-never CopyrightStatus.Protected b e f = let z : _≡_ {A = ℕ} 0 1 = cc (ap standardCopyright e) in omega arith
 

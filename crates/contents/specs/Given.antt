@@ -55,16 +55,16 @@ givenAlignment (AlignmentRead.Done a) = answer done (alignment a ∷ [])
 givenAlignment (AlignmentRead.Refused r) = refusal r
 
 -- the original's sense: a bit of 1 is undefined, a bit of 0 protected
-abbrev pub copyrightBit : CopyrightStatus → ℕ
-copyrightBit CopyrightStatus.Undefined = 1
-copyrightBit CopyrightStatus.Protected = 0
+abbrev pub statusBit : CopyrightStatus → ℕ
+statusBit CopyrightStatus.Undefined = 1
+statusBit CopyrightStatus.Protected = 0
 
 -- the standard's sense (clause 2.4.3.7, copyright): a bit of 1 is protected, a bit of 0 undefined
 abbrev pub standardCopyright : ℕ → CopyrightStatus
 standardCopyright b = pick (eqb b 0) CopyrightStatus.Undefined CopyrightStatus.Protected
 
 abbrev pub givenCopyright : CopyrightRead → Answer
-givenCopyright (CopyrightRead.Done k) = answer done (copyrightBit k ∷ [])
+givenCopyright (CopyrightRead.Done k) = answer done (statusBit k ∷ [])
 givenCopyright (CopyrightRead.Refused r) = refusal r
 
 -- original is 1

@@ -4,7 +4,10 @@ ghost use mathlib.Core.Path.{_≡_};
 ghost use Prim.Native.Nat.{_+_, _≤_};
 ghost use lib.ListN.{length, drop};
 ghost use Rattle.bits.specs.Answer.{partOf};
+ghost use Rattle.bits.specs.Field.{field, flag};
 ghost use Rattle.timestamp.specs.Stamp.{readStamp};
+ghost use Rattle.contents.specs.Contents.{scramblingBit, priorityBit, alignmentBit, copyrightBit, originalBit, flagsBit, dataLengthBit};
+ghost use Rattle.contents.specs.Contents.{ptsBit, escrBit, rateBit, trickBit, copyInfoBit, crcBit, extensionBit};
 ghost use Rattle.contents.specs.Contents.{readContents, readFixed, readPtsDts, readEscr, readEsRate, readCopyInfo, readCrc};
 ghost use Rattle.contents.specs.Contents.{readExtension, readPayload};
 ghost use Rattle.contents.specs.Contents.{escrAnswer, escrAt, rateAt, trickAt, copyInfoAt, crcAt, fieldsEnd, payloadAt, makeRate};
@@ -34,7 +37,26 @@ pub enum ContentsRead {
     Refused(Refusal),
 }
 
+// The sizes of the fields, in bytes.
 const FIXED_HEADER_SIZE: usize = 3;
+
+const TIMESTAMP_SIZE: usize = 5;
+
+const ESCR_SIZE: usize = 6;
+
+const ES_RATE_SIZE: usize = 3;
+
+const DSM_TRICK_MODE_SIZE: usize = 1;
+
+const ADDITIONAL_COPY_INFO_SIZE: usize = 1;
+
+const PREVIOUS_PES_PACKET_CRC_SIZE: usize = 2;
+
+const BIT_13: u64 = 1 << 13;
+
+const BIT_15: u64 = 1 << 15;
+
+const BIT_30: u64 = 1 << 30;
 
 // Whether the slice begins with contents whose flagged fields fit their header data, and whose header data fits the slice.
 pub fn from_bytes(buf: &[u8]) -> ContentsRead
@@ -56,6 +78,56 @@ pub fn from_bytes(buf: &[u8]) -> ContentsRead
     ContentsRead::Done
 }
 
+// The flags of the second byte, in the table's order.
+fn pts_dts_flags(buf: &[u8]) -> u8
+    requires { ⌜ 3 ≤ length (now buf) ⌝ }
+    ensures { λ r. ⌜ r ≡ field (now (buf .entry)) ptsBit 2 ⌝ }
+{
+    buf[1] / 64
+}
+
+fn escr_flag(buf: &[u8]) -> bool
+    requires { ⌜ 3 ≤ length (now buf) ⌝ }
+    ensures { λ r. ⌜ r ≡ flag (now (buf .entry)) escrBit ⌝ }
+{
+    buf[1] / 32 % 2 == 1
+}
+
+fn esrate_flag(buf: &[u8]) -> bool
+    requires { ⌜ 3 ≤ length (now buf) ⌝ }
+    ensures { λ r. ⌜ r ≡ flag (now (buf .entry)) rateBit ⌝ }
+{
+    buf[1] / 16 % 2 == 1
+}
+
+fn dsm_trick_mode_flag(buf: &[u8]) -> bool
+    requires { ⌜ 3 ≤ length (now buf) ⌝ }
+    ensures { λ r. ⌜ r ≡ flag (now (buf .entry)) trickBit ⌝ }
+{
+    buf[1] / 8 % 2 == 1
+}
+
+fn additional_copy_info_flag(buf: &[u8]) -> bool
+    requires { ⌜ 3 ≤ length (now buf) ⌝ }
+    ensures { λ r. ⌜ r ≡ flag (now (buf .entry)) copyInfoBit ⌝ }
+{
+    buf[1] / 4 % 2 == 1
+}
+
+fn pes_crc_flag(buf: &[u8]) -> bool
+    requires { ⌜ 3 ≤ length (now buf) ⌝ }
+    ensures { λ r. ⌜ r ≡ flag (now (buf .entry)) crcBit ⌝ }
+{
+    buf[1] / 2 % 2 == 1
+}
+
+fn pes_extension_flag(buf: &[u8]) -> bool
+    requires { ⌜ 3 ≤ length (now buf) ⌝ }
+    ensures { λ r. ⌜ r ≡ flag (now (buf .entry)) extensionBit ⌝ }
+{
+    buf[1] % 2 == 1
+}
+
 fn header_end(buf: &[u8]) -> usize
     requires { ⌜ 3 ≤ length (now buf) ⌝ }
     ensures { λ r. ⌜ (r ≡ payloadAt (now (buf .entry))) × (r ≤ 258) ⌝ }
@@ -67,14 +139,14 @@ fn pts_dts_end(buf: &[u8]) -> usize
     requires { ⌜ 3 ≤ length (now buf) ⌝ }
     ensures { λ r. ⌜ (r ≡ escrAt (now (buf .entry))) × (r ≤ 13) ⌝ }
 {
-    let flags = buf[1] / 64;
+    let flags = pts_dts_flags(buf);
     if flags < 2 {
-        return 3;
+        return FIXED_HEADER_SIZE;
     }
     if flags == 3 {
-        return 13;
+        return FIXED_HEADER_SIZE + TIMESTAMP_SIZE * 2;
     }
-    8
+    FIXED_HEADER_SIZE + TIMESTAMP_SIZE
 }
 
 fn escr_end(buf: &[u8]) -> usize
@@ -82,10 +154,10 @@ fn escr_end(buf: &[u8]) -> usize
     ensures { λ r. ⌜ (r ≡ rateAt (now (buf .entry))) × (r ≤ 19) ⌝ }
 {
     let at = pts_dts_end(buf);
-    if buf[1] / 32 % 2 == 0 {
-        return at;
+    if escr_flag(buf) {
+        return at + ESCR_SIZE;
     }
-    at + 6
+    at
 }
 
 fn es_rate_end(buf: &[u8]) -> usize
@@ -93,10 +165,10 @@ fn es_rate_end(buf: &[u8]) -> usize
     ensures { λ r. ⌜ (r ≡ trickAt (now (buf .entry))) × (r ≤ 22) ⌝ }
 {
     let at = escr_end(buf);
-    if buf[1] / 16 % 2 == 0 {
-        return at;
+    if esrate_flag(buf) {
+        return at + ES_RATE_SIZE;
     }
-    at + 3
+    at
 }
 
 fn dsm_trick_mode_end(buf: &[u8]) -> usize
@@ -104,11 +176,10 @@ fn dsm_trick_mode_end(buf: &[u8]) -> usize
     ensures { λ r. ⌜ (r ≡ copyInfoAt (now (buf .entry))) × (r ≤ 23) ⌝ }
 {
     let at = es_rate_end(buf);
-    let trick = buf[1] / 8 % 2;
-    if trick == 0 {
-        return at;
+    if dsm_trick_mode_flag(buf) {
+        return at + DSM_TRICK_MODE_SIZE;
     }
-    at + 1
+    at
 }
 
 fn additional_copy_info_end(buf: &[u8]) -> usize
@@ -116,10 +187,10 @@ fn additional_copy_info_end(buf: &[u8]) -> usize
     ensures { λ r. ⌜ (r ≡ crcAt (now (buf .entry))) × (r ≤ 24) ⌝ }
 {
     let at = dsm_trick_mode_end(buf);
-    if buf[1] / 4 % 2 == 0 {
-        return at;
+    if additional_copy_info_flag(buf) {
+        return at + ADDITIONAL_COPY_INFO_SIZE;
     }
-    at + 1
+    at
 }
 
 // Where the flagged fields end.
@@ -128,11 +199,10 @@ fn pes_crc_end(buf: &[u8]) -> usize
     ensures { λ r. ⌜ (r ≡ fieldsEnd (now (buf .entry))) × (r ≤ 26) ⌝ }
 {
     let at = additional_copy_info_end(buf);
-    let crc = buf[1] / 2 % 2;
-    if crc == 0 {
-        return at;
+    if pes_crc_flag(buf) {
+        return at + PREVIOUS_PES_PACKET_CRC_SIZE;
     }
-    at + 2
+    at
 }
 
 // A number that is always there.
@@ -142,7 +212,7 @@ pub enum ByteRead {
 }
 
 pub fn pes_priority(buf: &[u8]) -> ByteRead
-    ensures { λ r. ⌜ givenByte r ≡ readFixed 4 1 (now (buf .entry)) ⌝ }
+    ensures { λ r. ⌜ givenByte r ≡ readFixed priorityBit 1 (now (buf .entry)) ⌝ }
 {
     match from_bytes(buf) {
         ContentsRead::Refused(r) => ByteRead::Refused(r),
@@ -152,7 +222,7 @@ pub fn pes_priority(buf: &[u8]) -> ByteRead
 
 // Added: the original does not read it.
 pub fn pes_scrambling_control(buf: &[u8]) -> ByteRead
-    ensures { λ r. ⌜ givenByte r ≡ readFixed 2 2 (now (buf .entry)) ⌝ }
+    ensures { λ r. ⌜ givenByte r ≡ readFixed scramblingBit 2 (now (buf .entry)) ⌝ }
 {
     match from_bytes(buf) {
         ContentsRead::Refused(r) => ByteRead::Refused(r),
@@ -162,7 +232,7 @@ pub fn pes_scrambling_control(buf: &[u8]) -> ByteRead
 
 // The eight flags as one byte, as the table has them. Added: the original keeps them to itself.
 pub fn flags(buf: &[u8]) -> ByteRead
-    ensures { λ r. ⌜ givenByte r ≡ readFixed 8 8 (now (buf .entry)) ⌝ }
+    ensures { λ r. ⌜ givenByte r ≡ readFixed flagsBit 8 (now (buf .entry)) ⌝ }
 {
     match from_bytes(buf) {
         ContentsRead::Refused(r) => ByteRead::Refused(r),
@@ -172,7 +242,7 @@ pub fn flags(buf: &[u8]) -> ByteRead
 
 // Added: the original keeps it to itself.
 pub fn pes_header_data_len(buf: &[u8]) -> ByteRead
-    ensures { λ r. ⌜ givenByte r ≡ readFixed 16 8 (now (buf .entry)) ⌝ }
+    ensures { λ r. ⌜ givenByte r ≡ readFixed dataLengthBit 8 (now (buf .entry)) ⌝ }
 {
     match from_bytes(buf) {
         ContentsRead::Refused(r) => ByteRead::Refused(r),
@@ -191,7 +261,7 @@ pub enum AlignmentRead {
 }
 
 pub fn data_alignment_indicator(buf: &[u8]) -> AlignmentRead
-    ensures { λ r. ⌜ givenAlignment r ≡ readFixed 5 1 (now (buf .entry)) ⌝ }
+    ensures { λ r. ⌜ givenAlignment r ≡ readFixed alignmentBit 1 (now (buf .entry)) ⌝ }
 {
     match from_bytes(buf) {
         ContentsRead::Refused(r) => AlignmentRead::Refused(r),
@@ -216,7 +286,7 @@ pub enum CopyrightRead {
 
 // The original's sense of the bit, which is not the standard's: docs/DIFFERENCES.md.
 pub fn copyright(buf: &[u8]) -> CopyrightRead
-    ensures { λ r. ⌜ givenCopyright r ≡ readFixed 6 1 (now (buf .entry)) ⌝ }
+    ensures { λ r. ⌜ givenCopyright r ≡ readFixed copyrightBit 1 (now (buf .entry)) ⌝ }
 {
     match from_bytes(buf) {
         ContentsRead::Refused(r) => CopyrightRead::Refused(r),
@@ -240,7 +310,7 @@ pub enum OriginalRead {
 }
 
 pub fn original_or_copy(buf: &[u8]) -> OriginalRead
-    ensures { λ r. ⌜ givenOriginal r ≡ readFixed 7 1 (now (buf .entry)) ⌝ }
+    ensures { λ r. ⌜ givenOriginal r ≡ readFixed originalBit 1 (now (buf .entry)) ⌝ }
 {
     match from_bytes(buf) {
         ContentsRead::Refused(r) => OriginalRead::Refused(r),
@@ -273,7 +343,7 @@ pub fn pts_dts(buf: &[u8]) -> PtsDts
     match from_bytes(buf) {
         ContentsRead::Refused(r) => PtsDts::Refused(r),
         ContentsRead::Done => {
-            let flags = buf[1] / 64;
+            let flags = pts_dts_flags(buf);
             if flags == 0 {
                 return PtsDts::FieldNotPresent;
             }
@@ -281,10 +351,10 @@ pub fn pts_dts(buf: &[u8]) -> PtsDts
                 return PtsDts::PtsDtsFlagsInvalid;
             }
             if flags == 2 {
-                return PtsDts::PtsOnly(stamp_at(buf, 3));
+                return PtsDts::PtsOnly(stamp_at(buf, FIXED_HEADER_SIZE));
             }
-            let pts = stamp_at(buf, 3);
-            let dts = stamp_at(buf, 8);
+            let pts = stamp_at(buf, FIXED_HEADER_SIZE);
+            let dts = stamp_at(buf, FIXED_HEADER_SIZE + TIMESTAMP_SIZE);
             PtsDts::Both { pts, dts }
         }
     }
@@ -319,11 +389,11 @@ pub fn escr(buf: &[u8]) -> EscrRead
     match from_bytes(buf) {
         ContentsRead::Refused(r) => EscrRead::Refused(r),
         ContentsRead::Done => {
-            if buf[1] / 32 % 2 == 0 {
-                return EscrRead::FieldNotPresent;
+            if escr_flag(buf) {
+                let at = pts_dts_end(buf);
+                return escr_of(&buf[at..]);
             }
-            let at = pts_dts_end(buf);
-            escr_of(&buf[at..])
+            EscrRead::FieldNotPresent
         }
     }
 }
@@ -340,10 +410,10 @@ fn escr_of(s: &[u8]) -> EscrRead
     let b4 = wide(s[4]);
     let b5 = wide(s[5]);
     let high = b0 / 8 % 8;
-    let middle = b0 % 4 * 8192 + b1 * 32 + b2 / 8;
-    let low = b2 % 4 * 8192 + b3 * 32 + b4 / 8;
+    let middle = b0 % 4 * BIT_13 + b1 * 32 + b2 / 8;
+    let low = b2 % 4 * BIT_13 + b3 * 32 + b4 / 8;
     let extension = (b4 % 4 * 128 + b5 / 2) as u16;
-    match ClockRef::from_parts(high * 1073741824 + middle * 32768 + low, extension) {
+    match ClockRef::from_parts(high * BIT_30 + middle * BIT_15 + low, extension) {
         ClockMade::Done(c) => EscrRead::Done(c),
         ClockMade::OutOfRange => EscrRead::FieldNotPresent,
     }
@@ -405,15 +475,15 @@ pub fn es_rate(buf: &[u8]) -> EsRateRead
     match from_bytes(buf) {
         ContentsRead::Refused(r) => EsRateRead::Refused(r),
         ContentsRead::Done => {
-            if buf[1] / 16 % 2 == 0 {
-                return EsRateRead::FieldNotPresent;
+            if esrate_flag(buf) {
+                let at = escr_end(buf);
+                let b0 = wide(buf[at]);
+                let b1 = wide(buf[at + 1]);
+                let b2 = wide(buf[at + 2]);
+                let rate = (b0 % 128 * BIT_15 + b1 * 128 + b2 / 2) as u32;
+                return EsRateRead::Done(EsRate(rate));
             }
-            let at = escr_end(buf);
-            let b0 = wide(buf[at]);
-            let b1 = wide(buf[at + 1]);
-            let b2 = wide(buf[at + 2]);
-            let rate = (b0 % 128 * 32768 + b1 * 128 + b2 / 2) as u32;
-            EsRateRead::Done(EsRate(rate))
+            EsRateRead::FieldNotPresent
         }
     }
 }
@@ -463,11 +533,11 @@ pub fn dsm_trick_mode(buf: &[u8]) -> TrickRead
     match from_bytes(buf) {
         ContentsRead::Refused(r) => TrickRead::Refused(r),
         ContentsRead::Done => {
-            if buf[1] / 8 % 2 == 0 {
-                return TrickRead::FieldNotPresent;
+            if dsm_trick_mode_flag(buf) {
+                let at = es_rate_end(buf);
+                return TrickRead::Done(trick_of(buf[at]));
             }
-            let at = es_rate_end(buf);
-            TrickRead::Done(trick_of(buf[at]))
+            TrickRead::FieldNotPresent
         }
     }
 }
@@ -524,11 +594,11 @@ pub fn raw_trick_mode(buf: &[u8]) -> FieldRead
     match from_bytes(buf) {
         ContentsRead::Refused(r) => FieldRead::Refused(r),
         ContentsRead::Done => {
-            if buf[1] / 8 % 2 == 0 {
-                return FieldRead::FieldNotPresent;
+            if dsm_trick_mode_flag(buf) {
+                let at = es_rate_end(buf);
+                return FieldRead::Done(buf[at]);
             }
-            let at = es_rate_end(buf);
-            FieldRead::Done(buf[at])
+            FieldRead::FieldNotPresent
         }
     }
 }
@@ -546,15 +616,15 @@ pub fn additional_copy_info(buf: &[u8]) -> CopyInfoRead
     match from_bytes(buf) {
         ContentsRead::Refused(r) => CopyInfoRead::Refused(r),
         ContentsRead::Done => {
-            if buf[1] / 4 % 2 == 0 {
-                return CopyInfoRead::FieldNotPresent;
+            if additional_copy_info_flag(buf) {
+                let at = dsm_trick_mode_end(buf);
+                let byte = buf[at];
+                if byte / 128 == 0 {
+                    return CopyInfoRead::MarkerBitNotSet { bit_number: 0 };
+                }
+                return CopyInfoRead::Done(byte % 128);
             }
-            let at = dsm_trick_mode_end(buf);
-            let byte = buf[at];
-            if byte / 128 == 0 {
-                return CopyInfoRead::MarkerBitNotSet { bit_number: 0 };
-            }
-            CopyInfoRead::Done(byte % 128)
+            CopyInfoRead::FieldNotPresent
         }
     }
 }
@@ -572,13 +642,13 @@ pub fn previous_pes_packet_crc(buf: &[u8]) -> CrcRead
     match from_bytes(buf) {
         ContentsRead::Refused(r) => CrcRead::Refused(r),
         ContentsRead::Done => {
-            if buf[1] / 2 % 2 == 0 {
-                return CrcRead::FieldNotPresent;
+            if pes_crc_flag(buf) {
+                let at = additional_copy_info_end(buf);
+                let high = wide(buf[at]);
+                let low = wide(buf[at + 1]);
+                return CrcRead::Done((high * 256 + low) as u16);
             }
-            let at = additional_copy_info_end(buf);
-            let high = wide(buf[at]);
-            let low = wide(buf[at + 1]);
-            CrcRead::Done((high * 256 + low) as u16)
+            CrcRead::FieldNotPresent
         }
     }
 }
@@ -597,15 +667,15 @@ pub fn pes_extension_at(buf: &[u8]) -> PartRead
     match from_bytes(buf) {
         ContentsRead::Refused(r) => PartRead::Refused(r),
         ContentsRead::Done => {
-            if buf[1] % 2 == 0 {
-                return PartRead::FieldNotPresent;
+            if pes_extension_flag(buf) {
+                let place = pes_crc_end(buf);
+                let end = header_end(buf);
+                return PartRead::Done {
+                    place,
+                    length: end - place,
+                };
             }
-            let place = pes_crc_end(buf);
-            let end = header_end(buf);
-            PartRead::Done {
-                place,
-                length: end - place,
-            }
+            PartRead::FieldNotPresent
         }
     }
 }

@@ -3,10 +3,11 @@ ghost use mathlib.Core.Path.{_≡_};
 ghost use mathlib.Core.List.{List, [], _∷_};
 ghost use Prim.Native.Nat.{ℕ};
 ghost use lib.ListN.{getD};
+ghost use Rattle.contents.specs.Contents.{scramblingBit, priorityBit, alignmentBit, copyrightBit, originalBit, flagsBit, dataLengthBit};
 ghost use Rattle.contents.specs.Contents.{readContents, readFixed, readPtsDts, readEscr, readEsRate, readCopyInfo, readCrc, readExtension};
 ghost use Rattle.contents.specs.Contents.{readPayload, makeRate, rateBytes};
 ghost use Rattle.contents.specs.Trick.{readTrick, readRawTrick};
-ghost use Rattle.contents.specs.Given.{refusal, givenByte, alignment, copyrightBit, originality, givenStamp, truncation, trickValues};
+ghost use Rattle.contents.specs.Given.{refusal, givenByte, alignment, statusBit, originality, givenStamp, truncation, trickValues};
 ghost use Rattle.contents.specs.Given.{givenPart};
 ghost use Rattle.host.specs.Told.{Told, filled};
 use crate::clocks::tell_clock;
@@ -82,7 +83,7 @@ fn tell_byte(r: ByteRead, value: &mut u64) -> u32
 // contents::pes_priority
 #[no_mangle]
 pub extern "C" fn cmv_pes_contents_pes_priority(buf: &[u8], value: &mut u64) -> u32
-    ensures { λ w. ⌜ Told (readFixed 4 1 (now (buf .entry))) w (now (value .entry) ∷ []) (now (value .exit) ∷ []) ⌝ }
+    ensures { λ w. ⌜ Told (readFixed priorityBit 1 (now (buf .entry))) w (now (value .entry) ∷ []) (now (value .exit) ∷ []) ⌝ }
 {
     tell_byte(contents::pes_priority(buf), value)
 }
@@ -90,7 +91,7 @@ pub extern "C" fn cmv_pes_contents_pes_priority(buf: &[u8], value: &mut u64) -> 
 // contents::pes_scrambling_control
 #[no_mangle]
 pub extern "C" fn cmv_pes_contents_pes_scrambling_control(buf: &[u8], value: &mut u64) -> u32
-    ensures { λ w. ⌜ Told (readFixed 2 2 (now (buf .entry))) w (now (value .entry) ∷ []) (now (value .exit) ∷ []) ⌝ }
+    ensures { λ w. ⌜ Told (readFixed scramblingBit 2 (now (buf .entry))) w (now (value .entry) ∷ []) (now (value .exit) ∷ []) ⌝ }
 {
     tell_byte(contents::pes_scrambling_control(buf), value)
 }
@@ -98,7 +99,7 @@ pub extern "C" fn cmv_pes_contents_pes_scrambling_control(buf: &[u8], value: &mu
 // contents::flags
 #[no_mangle]
 pub extern "C" fn cmv_pes_contents_flags(buf: &[u8], value: &mut u64) -> u32
-    ensures { λ w. ⌜ Told (readFixed 8 8 (now (buf .entry))) w (now (value .entry) ∷ []) (now (value .exit) ∷ []) ⌝ }
+    ensures { λ w. ⌜ Told (readFixed flagsBit 8 (now (buf .entry))) w (now (value .entry) ∷ []) (now (value .exit) ∷ []) ⌝ }
 {
     tell_byte(contents::flags(buf), value)
 }
@@ -106,7 +107,7 @@ pub extern "C" fn cmv_pes_contents_flags(buf: &[u8], value: &mut u64) -> u32
 // contents::pes_header_data_len
 #[no_mangle]
 pub extern "C" fn cmv_pes_contents_pes_header_data_len(buf: &[u8], value: &mut u64) -> u32
-    ensures { λ w. ⌜ Told (readFixed 16 8 (now (buf .entry))) w (now (value .entry) ∷ []) (now (value .exit) ∷ []) ⌝ }
+    ensures { λ w. ⌜ Told (readFixed dataLengthBit 8 (now (buf .entry))) w (now (value .entry) ∷ []) (now (value .exit) ∷ []) ⌝ }
 {
     tell_byte(contents::pes_header_data_len(buf), value)
 }
@@ -123,7 +124,7 @@ fn aligned(x: DataAlignment) -> u64
 // contents::data_alignment_indicator: 1 where aligned
 #[no_mangle]
 pub extern "C" fn cmv_pes_contents_data_alignment_indicator(buf: &[u8], value: &mut u64) -> u32
-    ensures { λ w. ⌜ Told (readFixed 5 1 (now (buf .entry))) w (now (value .entry) ∷ []) (now (value .exit) ∷ []) ⌝ }
+    ensures { λ w. ⌜ Told (readFixed alignmentBit 1 (now (buf .entry))) w (now (value .entry) ∷ []) (now (value .exit) ∷ []) ⌝ }
 {
     match contents::data_alignment_indicator(buf) {
         AlignmentRead::Done(a) => {
@@ -135,7 +136,7 @@ pub extern "C" fn cmv_pes_contents_data_alignment_indicator(buf: &[u8], value: &
 }
 
 fn undefined(x: CopyrightStatus) -> u64
-    ensures { λ r. ⌜ r ≡ copyrightBit x ⌝ }
+    ensures { λ r. ⌜ r ≡ statusBit x ⌝ }
 {
     match x {
         CopyrightStatus::Undefined => 1,
@@ -146,7 +147,7 @@ fn undefined(x: CopyrightStatus) -> u64
 // contents::copyright: 1 where undefined
 #[no_mangle]
 pub extern "C" fn cmv_pes_contents_copyright(buf: &[u8], value: &mut u64) -> u32
-    ensures { λ w. ⌜ Told (readFixed 6 1 (now (buf .entry))) w (now (value .entry) ∷ []) (now (value .exit) ∷ []) ⌝ }
+    ensures { λ w. ⌜ Told (readFixed copyrightBit 1 (now (buf .entry))) w (now (value .entry) ∷ []) (now (value .exit) ∷ []) ⌝ }
 {
     match contents::copyright(buf) {
         CopyrightRead::Done(s) => {
@@ -169,7 +170,7 @@ fn original(x: OriginalOrCopy) -> u64
 // contents::original_or_copy: 1 where original
 #[no_mangle]
 pub extern "C" fn cmv_pes_contents_original_or_copy(buf: &[u8], value: &mut u64) -> u32
-    ensures { λ w. ⌜ Told (readFixed 7 1 (now (buf .entry))) w (now (value .entry) ∷ []) (now (value .exit) ∷ []) ⌝ }
+    ensures { λ w. ⌜ Told (readFixed originalBit 1 (now (buf .entry))) w (now (value .entry) ∷ []) (now (value .exit) ∷ []) ⌝ }
 {
     match contents::original_or_copy(buf) {
         OriginalRead::Done(o) => {

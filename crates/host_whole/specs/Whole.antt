@@ -10,6 +10,7 @@ use Rattle.packet.specs.Packet.{tried, readFlag, errorBit, startBit, priorityBi
 use Rattle.packet.specs.Packet.{readPayload as packetPayload}
 use Rattle.pes.specs.Head.{readHead, readStreamId, readLength}
 use Rattle.pes.specs.Head.{readContents as headContents}
+use Rattle.contents.specs.Contents.{scramblingBit, priorityBit as pesPriorityBit, alignmentBit, copyrightBit, originalBit, flagsBit, dataLengthBit}
 use Rattle.contents.specs.Contents.{readContents, readPtsDts, readEscr, readEsRate, readCopyInfo, readCrc, readExtension, readPayload}
 use Rattle.contents.specs.Trick.{readTrick, readRawTrick}
 use Rattle.host.specs.Told.{word, outs}
@@ -52,7 +53,15 @@ headerFields xs =
 -- the fields that parsed contents always have (the same table): PES_scrambling_control, PES_priority, data_alignment_indicator, copyright,
 -- original_or_copy, the eight flags as one byte, PES_header_data_length
 abbrev pub fixedFields : List ℕ → List ℕ
-fixedFields c = field c 2 2 ∷ field c 4 1 ∷ field c 5 1 ∷ field c 6 1 ∷ field c 7 1 ∷ field c 8 8 ∷ field c 16 8 ∷ []
+fixedFields c =
+    field c scramblingBit 2
+    ∷ field c pesPriorityBit 1
+    ∷ field c alignmentBit 1
+    ∷ field c copyrightBit 1
+    ∷ field c originalBit 1
+    ∷ field c flagsBit 8
+    ∷ field c dataLengthBit 8
+    ∷ []
 
 -- parsed contents: those, then a row for each field that a flag stands for, and place and length of the payload
 unfoldable pub contentsFields : List ℕ → Answer

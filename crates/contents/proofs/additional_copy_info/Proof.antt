@@ -1,9 +1,10 @@
-use Rattle.contents.proofs.Laws.{contents-laws}
+use Rattle.contents.proofs.Laws.{copy-laws}
 use Rattle.contents.proofs.additional_copy_info.Statement.{statement}
 use Rattle.contents.proofs.additional_copy_info.Tie as tie
 
 pub additional-copy-info-spec : {M : Type 1} → statement M
 additional-copy-info-spec =
     tie.close
-    (tie.spec (λ c κs. search contents-laws) (λ c. search contents-laws) (λ c. search contents-laws) (λ c. search contents-laws) (λ c. search contents-laws) (λ c κs. search contents-laws)
-    (λ c. search contents-laws) (λ c. search contents-laws) (λ c. search contents-laws) (λ c. search contents-laws))
+    (tie.spec (λ c κs. search copy-laws) (λ c. search copy-laws) (λ c. search copy-laws) (λ c κs. search copy-laws)
+    (λ c κs. search copy-laws) (λ c. search copy-laws) (λ c. search copy-laws) (λ c. search copy-laws) (λ c. search copy-laws)
+    (λ c. search copy-laws))

@@ -1,9 +1,10 @@
-use Rattle.contents.proofs.Laws.{contents-laws}
+use Rattle.contents.proofs.Laws.{trick-laws}
 use Rattle.contents.proofs.dsm_trick_mode.Statement.{statement}
 use Rattle.contents.proofs.dsm_trick_mode.Tie as tie
 
 pub dsm-trick-mode-spec : {M : Type 1} → statement M
 dsm-trick-mode-spec =
     tie.close
-    (tie.spec (λ c κs. search contents-laws) (λ c. search contents-laws) (λ c. search contents-laws) (λ c. search contents-laws) (λ c. search contents-laws) (λ c κs. search contents-laws)
-    (λ c. search contents-laws) (λ c κs. search contents-laws) (λ c. search contents-laws) (λ c. search contents-laws))
+    (tie.spec (λ c κs. search trick-laws) (λ c. search trick-laws) (λ c. search trick-laws) (λ c κs. search trick-laws)
+    (λ c κs. search trick-laws) (λ c. search trick-laws) (λ c κs. search trick-laws) (λ c. search trick-laws) (λ c. search trick-laws)
+    (λ c. search trick-laws))

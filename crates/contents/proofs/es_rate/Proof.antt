@@ -1,11 +1,12 @@
-use Rattle.contents.proofs.Laws.{contents-laws}
+use Rattle.contents.proofs.Laws.{rate-laws}
 use Rattle.contents.proofs.es_rate.Statement.{statement}
 use Rattle.contents.proofs.es_rate.Tie as tie
 
 pub es-rate-spec : {M : Type 1} → statement M
 es-rate-spec =
     tie.close
-    (tie.spec (λ c κs. search contents-laws) (λ c. search contents-laws) (λ c. search contents-laws) (λ c. search contents-laws) (λ c. search contents-laws) (λ c κs. search contents-laws)
-    (λ c. search contents-laws) (λ c κs. search contents-laws) (λ c. search contents-laws) (λ c. search contents-laws) (λ c κs. search contents-laws) (λ c. search contents-laws) (λ c. search contents-laws)
-    (λ c κs. search contents-laws) (λ c. search contents-laws) (λ c. search contents-laws) (λ c. search contents-laws) (λ c. search contents-laws) (λ c. search contents-laws) (λ c. search contents-laws)
-    (λ c. search contents-laws))
+    (tie.spec (λ c κs. search rate-laws) (λ c. search rate-laws) (λ c. search rate-laws) (λ c κs. search rate-laws)
+    (λ c κs. search rate-laws) (λ c. search rate-laws) (λ c κs. search rate-laws) (λ c. search rate-laws) (λ c. search rate-laws)
+    (λ c κs. search rate-laws) (λ c. search rate-laws) (λ c. search rate-laws) (λ c κs. search rate-laws) (λ c. search rate-laws)
+    (λ c. search rate-laws) (λ c. search rate-laws) (λ c. search rate-laws) (λ c. search rate-laws) (λ c. search rate-laws)
+    (λ c. search rate-laws) (λ c. search rate-laws))

@@ -1,9 +1,10 @@
-use Rattle.contents.proofs.Laws.{contents-laws}
+use Rattle.contents.proofs.Laws.{escr-laws}
 use Rattle.contents.proofs.escr.Statement.{statement}
 use Rattle.contents.proofs.escr.Tie as tie
 
 pub escr-spec : {M : Type 1} → statement M
 escr-spec =
     tie.close
-    (tie.spec (λ c κs. search contents-laws) (λ c. search contents-laws) (λ c. search contents-laws) (λ c. search contents-laws) (λ c. search contents-laws) (λ c κs. search contents-laws)
-    (λ c. search contents-laws) (λ c. search contents-laws) (λ c. search contents-laws) (λ c κs. search contents-laws) (λ c. search contents-laws) (λ c. search contents-laws))
+    (tie.spec (λ c κs. search escr-laws) (λ c. search escr-laws) (λ c. search escr-laws) (λ c κs. search escr-laws)
+    (λ c κs. search escr-laws) (λ c. search escr-laws) (λ c. search escr-laws) (λ c. search escr-laws) (λ c κs. search escr-laws)
+    (λ c. search escr-laws) (λ c. search escr-laws) (λ c. search escr-laws))

@@ -1,9 +1,10 @@
-use Rattle.contents.proofs.Laws.{contents-laws}
+use Rattle.contents.proofs.Laws.{extension-laws}
 use Rattle.contents.proofs.pes_extension_at.Statement.{statement}
 use Rattle.contents.proofs.pes_extension_at.Tie as tie
 
 pub pes-extension-at-spec : {M : Type 1} → statement M
 pes-extension-at-spec =
     tie.close
-    (tie.spec (λ c κs. search contents-laws) (λ c. search contents-laws) (λ c. search contents-laws) (λ c. search contents-laws) (λ c. search contents-laws) (λ c κs. search contents-laws)
-    (λ c κs. search contents-laws) (λ c. search contents-laws) (λ c. search contents-laws) (λ c. search contents-laws))
+    (tie.spec (λ c κs. search extension-laws) (λ c. search extension-laws) (λ c. search extension-laws) (λ c κs. search extension-laws)
+    (λ c κs. search extension-laws) (λ c κs. search extension-laws) (λ c. search extension-laws) (λ c. search extension-laws) (λ c. search extension-laws)
+    (λ c. search extension-laws))

@@ -1,10 +1,11 @@
-use Rattle.contents.proofs.Laws.{contents-laws}
+use Rattle.contents.proofs.Laws.{crc-laws}
 use Rattle.contents.proofs.previous_pes_packet_crc.Statement.{statement}
 use Rattle.contents.proofs.previous_pes_packet_crc.Tie as tie
 
 pub previous-pes-packet-crc-spec : {M : Type 1} → statement M
 previous-pes-packet-crc-spec =
     tie.close
-    (tie.spec (λ c κs. search contents-laws) (λ c. search contents-laws) (λ c. search contents-laws) (λ c. search contents-laws) (λ c. search contents-laws) (λ c κs. search contents-laws)
-    (λ c. search contents-laws) (λ c κs. search contents-laws) (λ c. search contents-laws) (λ c. search contents-laws) (λ c κs. search contents-laws) (λ c. search contents-laws) (λ c. search contents-laws)
-    (λ c. search contents-laws) (λ c. search contents-laws) (λ c. search contents-laws))
+    (tie.spec (λ c κs. search crc-laws) (λ c. search crc-laws) (λ c. search crc-laws) (λ c κs. search crc-laws)
+    (λ c κs. search crc-laws) (λ c. search crc-laws) (λ c κs. search crc-laws) (λ c. search crc-laws) (λ c. search crc-laws)
+    (λ c κs. search crc-laws) (λ c. search crc-laws) (λ c. search crc-laws) (λ c. search crc-laws) (λ c. search crc-laws)
+    (λ c. search crc-laws) (λ c. search crc-laws))

@@ -1,9 +1,10 @@
-use Rattle.contents.proofs.Laws.{contents-laws}
+use Rattle.contents.proofs.Laws.{times-laws}
 use Rattle.contents.proofs.pts_dts.Statement.{statement}
 use Rattle.contents.proofs.pts_dts.Tie as tie
 
 pub pts-dts-spec : {M : Type 1} → statement M
 pts-dts-spec =
     tie.close
-    (tie.spec (λ c κs. search contents-laws) (λ c. search contents-laws) (λ c. search contents-laws) (λ c. search contents-laws) (λ c. search contents-laws) (λ c. search contents-laws)
-    (λ c κs. search contents-laws) (λ c. search contents-laws) (λ c κs. search contents-laws) (λ c κs. search contents-laws) (λ c. search contents-laws) (λ c. search contents-laws))
+    (tie.spec (λ c κs. search times-laws) (λ c. search times-laws) (λ c. search times-laws) (λ c κs. search times-laws)
+    (λ c. search times-laws) (λ c. search times-laws) (λ c κs. search times-laws) (λ c. search times-laws) (λ c κs. search times-laws)
+    (λ c. search times-laws) (λ c κs. search times-laws) (λ c. search times-laws) (λ c. search times-laws))

@@ -4,4 +4,6 @@ use Rattle.contents.proofs.pts_dts_end.Tie as tie
 
 pub pts-dts-end-spec : {M : Type 1} → statement M
 pts-dts-end-spec =
-    tie.close (tie.spec (λ c. search contents-laws) (λ c. search contents-laws) (λ c. search contents-laws) (λ c. search contents-laws))
+    tie.close
+    (tie.spec (λ c κs. search contents-laws) (λ c. search contents-laws) (λ c. search contents-laws) (λ c. search contents-laws)
+    (λ c. search contents-laws) (λ c. search contents-laws) (λ c. search contents-laws))

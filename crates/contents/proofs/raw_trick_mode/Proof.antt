@@ -1,9 +1,9 @@
-use Rattle.contents.proofs.Laws.{contents-laws}
+use Rattle.contents.proofs.Laws.{trick-laws}
 use Rattle.contents.proofs.raw_trick_mode.Statement.{statement}
 use Rattle.contents.proofs.raw_trick_mode.Tie as tie
 
 pub raw-trick-mode-spec : {M : Type 1} → statement M
 raw-trick-mode-spec =
     tie.close
-    (tie.spec (λ c κs. search contents-laws) (λ c. search contents-laws) (λ c. search contents-laws) (λ c. search contents-laws) (λ c. search contents-laws) (λ c κs. search contents-laws)
-    (λ c. search contents-laws) (λ c. search contents-laws) (λ c. search contents-laws))
+    (tie.spec (λ c κs. search trick-laws) (λ c. search trick-laws) (λ c. search trick-laws) (λ c κs. search trick-laws)
+    (λ c κs. search trick-laws) (λ c. search trick-laws) (λ c. search trick-laws) (λ c. search trick-laws) (λ c. search trick-laws))

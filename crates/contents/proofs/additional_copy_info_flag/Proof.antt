@@ -1,0 +1,6 @@
+use Rattle.contents.proofs.Laws.{contents-laws}
+use Rattle.contents.proofs.additional_copy_info_flag.Statement.{statement}
+use Rattle.contents.proofs.additional_copy_info_flag.Tie as tie
+
+pub additional-copy-info-flag-spec : {M : Type 1} → statement M
+additional-copy-info-flag-spec = tie.close (tie.spec (λ c. search contents-laws) (λ c. search contents-laws))
