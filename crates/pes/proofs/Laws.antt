@@ -38,11 +38,11 @@ module _ (n : ℕ) where
   unfolding idValues
   unknown h = simp (le-leb n 0xBB (omega arith))
 
-  pub audio : (0xC0 ≤ n) × (n < 0xE0) → answer 0 (0xC0 ∷ n % 32 ∷ []) ≡ readId n
+  audio : (0xC0 ≤ n) × (n < 0xE0) → answer 0 (0xC0 ∷ n % 32 ∷ []) ≡ readId n
   unfolding idValues
   audio h = simp (lt-leb n 0xBB (omega arith), lt-leb n 0xBF (omega arith), le-leb n 0xDF (omega arith))
 
-  pub video : (0xE0 ≤ n) × (n < 0xF0) → answer 0 (0xE0 ∷ n % 32 ∷ []) ≡ readId n
+  video : (0xE0 ≤ n) × (n < 0xF0) → answer 0 (0xE0 ∷ n % 32 ∷ []) ≡ readId n
   unfolding idValues
   video h = simp (lt-leb n 0xBB (omega arith), lt-leb n 0xBF (omega arith), lt-leb n 0xDF (omega arith), le-leb n 0xEF (omega arith))
 
@@ -63,7 +63,7 @@ pub kind-agrees : (n : ℕ) → n < 256 → parsedId (getD (idValues n) 0 0) ≡
 unfolding idValues parsedId
 kind-agrees n h = agree (λ (m : ℕ). parsedId (getD (idValues m) 0 0)) parsedId 0 256 tt n (omega arith)
 
-parsed-agrees : (n : ℕ) (s : StreamId) → n < 256 → givenId s ≡ readId n → parsedId (kindOf s) ≡ parsedId n
+pub parsed-agrees : (n : ℕ) (s : StreamId) → n < 256 → givenId s ≡ readId n → parsedId (kindOf s) ≡ parsedId n
 parsed-agrees n s h e = ap (λ (a : Answer). parsedId (getD (a .values) 0 0)) e ∙ kind-agrees n h
 
 -- ---- bytes that begin with no head, and those that do
@@ -209,7 +209,6 @@ parsed ReservedDataStream k = refl
 parsed ProgramStreamDirectory k = absurd (miss others 21 tt k)
 parsed (Unknown n) k = refl
 
--- at each of the eight the definition computes
 pub id-told : (s k : StreamId) (t : Bool) → s ≡ k → t ≡ parsedId (kindOf k) → t ≡ parsedId (kindOf s)
 id-told s k t e f = f ∙ ap (λ (i : StreamId). parsedId (kindOf i)) (sym e)
 

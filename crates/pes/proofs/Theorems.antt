@@ -1,12 +1,11 @@
--- The crate's theorems that belong to no one function: one answer only, which ids carry parsed contents, and where these lie.
+-- The crate's theorems that belong to no one function: one answer only. Which ids carry parsed contents, and where these lie, is in
+-- Laws.antt (`parsed-agrees`, `contents-within`).
 -- Assumes nothing.
-use mathlib.Core.Path.{_≡_, refl, ap, _∙_}
-use mathlib.Core.List.{List, [], _∷_}
-use Prim.Native.Nat.{ℕ, _-_, _<_}
-use native.Mathlib.Omega.{arith}
-use lib.ListN.{length, getD}
+use mathlib.Core.Path.{_≡_, refl}
+use Prim.Native.Nat.{ℕ}
+use lib.ListN.{getD}
 use lib.Dec.{eqb}
-use Rattle.bits.specs.Answer.{Answer, answer, pick, Within}
+use Rattle.bits.specs.Answer.{Answer, pick}
 use Rattle.bits.proofs.Tests.{one-answer}
 use Rattle.pes.specs.declared.StreamId.{StreamId}
 use Rattle.pes.specs.declared.StreamId.the-variants.{ProgramStreamMap, PrivateStream1, PaddingStream, PrivateStream2, Audio, Video}
@@ -18,10 +17,8 @@ use Rattle.pes.specs.declared.HeadRead.{HeadRead}
 use Rattle.pes.specs.declared.StreamIdRead.{StreamIdRead}
 use Rattle.pes.specs.declared.LengthRead.{LengthRead}
 use Rattle.pes.specs.declared.ContentsRead.{ContentsRead}
-use Rattle.pes.specs.Stream.{streamValues, givenId, kindOf, idValues, readId, parsedId}
-use Rattle.pes.specs.Head.{givenHead, givenStreamId, givenLength, givenContents, contentsPart}
-use Rattle.bits.proofs.Ranges.{agree}
-use Rattle.pes.proofs.Laws.{headed-done}
+use Rattle.pes.specs.Stream.{streamValues, givenId, readId}
+use Rattle.pes.specs.Head.{givenHead, givenStreamId, givenLength, givenContents}
 
 -- ---- one answer only: any two answers that meet a reader's promise are equal
 
