@@ -1,162 +1,274 @@
--- What the definitions of `specs/` come to on the bytes, in each case. The functions' proofs cite these, and so do callers'.
+-- What the definitions of `specs/` come to on the bytes, in each case. The functions' proofs are `search adaptation-laws`: each premise is a
+-- test or a promise that a need is handed, and the answer is as the code computes it.
 -- Assumes nothing.
 use mathlib.Core.Path.{_≡_, refl, sym, ap, _∙_}
 use mathlib.Core.Bool.{Bool, true, false}
 use mathlib.Core.List.{List, [], _∷_}
 use mathlib.Core.Logic.{⊎-elim}
-use Prim.Native.Nat.{ℕ, _+_, _-_, _*_, _/_, _%_, _≤_, _<_}
+use Prim.Native.Nat.{ℕ, _+_, _-_, _*_, _/_, _%_, _^_, _≤_, _<_}
 use native.Mathlib.Nat.{add-zero}
 use native.Mathlib.Omega.{arith}
 use lib.ListN.{length, getD, take, drop, length-drop, List·getD-eq-default}
 use lib.Seq.{getD-drop}
-use lib.Dec.{eqb, leb}
+use lib.Dec.{T, eqb, leb, leb→le}
 use types.Run.{OneOf}
 use denote.Enum.Declared.{tagOf}
-use borrow.Author.Tests.{leb-true, le-ltb, le-leb, lt-leb, eq-eqb, ne-eqb}
-use Rattle.bits.specs.Answer.{Answer, answer, pick, truth, partOf, Within}
+use mir.Val.{Fits}
+use mir.Syntax.{w8}
+use borrow.Author.Needs.{needs}
+use borrow.Author.Tests.{le-ltb, lt-ltb, ltb-false, eq-eqb, ne-eqb}
+use Rattle.bits.specs.Answer.{Answer, answer, truth, unless, partAt, partOf, Within}
 use Rattle.bits.specs.Field.{bit, field, flag}
+use Rattle.bits.proofs.Checks.{unless-within}
 use Rattle.bits.proofs.Fields.{bitOf, flag-clear, flag-set, field-split, field-drop, in-byte}
-use Rattle.bits.proofs.Parts.{part-rest}
-use Rattle.timestamp.specs.Stamp.{readStamp}
-use Rattle.control.specs.Clock.{readClock}
+use Rattle.bits.proofs.Parts.{part-rest, part-refused, part-done}
+use Rattle.timestamp.specs.declared.Timestamp.{Timestamp}
+use Rattle.timestamp.specs.declared.TimestampRead.{TimestampRead}
+use Rattle.timestamp.specs.Stamp.{given, readStamp}
+use Rattle.timestamp.proofs.Laws.{stamp-long}
+use Rattle.control.specs.declared.ClockRead as control
+use Rattle.control.specs.declared.ClockRef.{ClockRef}
+use Rattle.control.specs.Clock.{givenRead, readClock, clockValues}
+use Rattle.control.proofs.Laws.{clock-long}
+use Rattle.adaptation.specs.declared.ClockRead.{ClockRead}
 use Rattle.adaptation.specs.declared.PartRead.{PartRead}
 use Rattle.adaptation.proofs.PartRead.{the-type}
-use Rattle.adaptation.specs.Adaptation.{givenPart, optional, readFlag, opcrBit, spliceBit, privateBit, extensionBit, measuredEnd}
-use Rattle.adaptation.specs.Adaptation.{measured, clockAt, opcrAt, spliceAt, privateAt, extensionAt, readOpcr, readSpliceCountdown}
-use Rattle.adaptation.specs.Adaptation.{readPrivateData, readExtension}
+use Rattle.adaptation.specs.Adaptation.{givenClock, givenPart, noFlags, notField, readFlag, pcrBit, opcrBit, spliceBit}
+use Rattle.adaptation.specs.Adaptation.{privateBit, extensionBit, measuredEnd, measured, clockAt, opcrAt, spliceAt, privateAt, extensionAt, emptyExtension}
+use Rattle.adaptation.specs.Adaptation.{readPcr, readOpcr, readSpliceCountdown, readPrivateData, readExtension}
 use Rattle.adaptation.specs.Extension.{ltwBit, rateBit, seamlessBit, ltwAt, readLtw, readRate, readSplice, rateAt, seamlessAt, typed}
+
+-- ---- bytes and flags
+
+-- each entry is a byte, as the borrow checker says it
+abbrev Known : List ℕ → Type 0
+Known xs = (i : ℕ) → Fits w8 (getD xs i 0)
+
+module _ (xs : List ℕ) where
+  pub byte-fits : (i m : ℕ) → Known xs → T (leb 256 m) → getD xs i 0 < m
+  byte-fits i m k t = omega (arith, k i, leb→le 256 m t)
+
+  pub end-fits : (k m : ℕ) → Known xs → k ≤ m → T (leb m 270) → k + 1 + getD xs k 0 < 2 ^ 64
+  end-fits k m b l t = omega (arith, b k, leb→le m 270 t)
+
+  pub flag-on : (i : ℕ) → (bitOf xs i ≡ 0 → ⊥) → flag xs i ≡ true
+  flag-on i h = flag-set xs i (omega arith)
+
+  -- the last bit of a byte, which the code reads with no quotient
+  pub last-off : getD xs 0 0 % 2 ≡ 0 → flag xs 7 ≡ false
+  last-off h = flag-clear xs 7 (omega arith)
+
+  pub last-on : (getD xs 0 0 % 2 ≡ 0 → ⊥) → flag xs 7 ≡ true
+  last-on h = flag-set xs 7 (omega arith)
 
 -- ---- the flags that are always there
 
 module _ (xs : List ℕ) (i : ℕ) where
   pub flag-short : length xs ≡ 0 → answer 1 [] ≡ readFlag i xs
-  unfolding readFlag
+  unfolding readFlag noFlags
   flag-short h = simp (eq-eqb (length xs) 0 h)
 
-  pub flag-done : (length xs ≡ 0 → ⊥) → answer 0 (truth (eqb (bitOf xs i) 1) ∷ []) ≡ readFlag i xs
-  unfolding readFlag bit
-  flag-done h = simp (ne-eqb (length xs) 0 h)
+  pub flag-done : (n : ℕ) → bitOf xs i ≡ n → (length xs ≡ 0 → ⊥) → answer 0 (truth (eqb n 1) ∷ []) ≡ readFlag i xs
+  unfolding readFlag noFlags bit
+  flag-done n e h = simp (ne-eqb (length xs) 0 h, e)
 
 -- ---- fields that a flag says are there
 
--- there are bytes, and bit i is set
-abbrev pub Flagged : List ℕ → ℕ → Type 0
-Flagged xs i = (0 < length xs) × (0 < bitOf xs i)
-
 module _ (none i e : ℕ) (xs : List ℕ) (a : Answer) where
-  pub empty : length xs ≡ 0 → answer none [] ≡ optional none i e xs a
-  unfolding optional
+  pub empty : length xs ≡ 0 → answer none [] ≡ unless (notField none i e xs) a
+  unfolding notField
   empty h = simp (eq-eqb (length xs) 0 h)
 
-  pub absent : (0 < length xs) × (bitOf xs i ≡ 0) → answer 9 [] ≡ optional none i e xs a
-  unfolding optional
-  absent h = simp (ne-eqb (length xs) 0 (omega arith), flag-clear xs i (h .1))
+  pub absent : (length xs ≡ 0 → ⊥) → flag xs i ≡ false → answer 9 [] ≡ unless (notField none i e xs) a
+  unfolding notField
+  absent h f = simp (ne-eqb (length xs) 0 h, f)
 
-  pub short : Flagged xs i × (length xs < e) → answer 11 [] ≡ optional none i e xs a
-  unfolding optional
-  short h = simp (ne-eqb (length xs) 0 (omega arith), flag-set xs i (h .0 .1), lt-leb e (length xs) (h .1))
+  pub short : (length xs ≡ 0 → ⊥) → flag xs i ≡ true → length xs < e → answer 11 [] ≡ unless (notField none i e xs) a
+  unfolding notField
+  short h f l = simp (ne-eqb (length xs) 0 h, f, lt-ltb (length xs) e l)
 
-  pub there : Flagged xs i × (e ≤ length xs) → a ≡ optional none i e xs a
-  unfolding optional
-  there h = simp (ne-eqb (length xs) 0 (omega arith), flag-set xs i (h .0 .1), le-leb e (length xs) (h .1))
+  pub there : (length xs ≡ 0 → ⊥) → flag xs i ≡ true → e ≤ length xs → a ≡ unless (notField none i e xs) a
+  unfolding notField
+  there h f l = simp (ne-eqb (length xs) 0 h, f, le-ltb (length xs) e l)
 
-  -- what it answers lies within the bytes, where what is read does
-  pub optional-within : (none ≡ 0 → ⊥) → (e ≤ length xs → Within a xs) → Within (optional none i e xs a) xs
-  unfolding optional
-  optional-within n w = go (eqb (length xs) 0) (flag xs i) (leb e (length xs)) refl
-    where
-      go : (p q r : Bool) → leb e (length xs) ≡ r → Within (pick p (answer none []) (pick q (pick r a (answer 11 [])) (answer 9 []))) xs
-      go true q r l = λ z. absurd (n z)
-      go false true true l = w (leb-true e (length xs) l)
-      go false true false l = λ z. absurd (omega arith)
-      go false false r l = λ z. absurd (omega arith)
+-- the same where the field's place was found to be k
+module _ (xs : List ℕ) (k p : ℕ) (q : k ≡ p) (h : length xs ≡ 0 → ⊥) where
+  pub short-at : (none i n : ℕ) (a : Answer) → flag xs i ≡ true → length xs < k + n → answer 11 [] ≡ unless (notField none i (p + n) xs) a
+  short-at none i n a f l = short none i (p + n) xs a h f (omega arith)
 
--- ---- the fields of the adaptation field. `k` is the place that the code has found
+  there-at : (none i n : ℕ) (a : Answer) → flag xs i ≡ true → k + n ≤ length xs → a ≡ unless (notField none i (p + n) xs) a
+  there-at none i n a f l = there none i (p + n) xs a h f (omega arith)
 
-module _ (xs : List ℕ) (k : ℕ) where
-  -- six bytes from a place on are a clock reference
-  pub clock-part : k + 6 ≤ length xs → readClock (take (length xs - k) (drop k xs)) ≡ clockAt xs k
+  -- a length byte that is missing, and bytes after it that are
+  pub unmeasured : (i : ℕ) (a : Answer) → flag xs i ≡ true → length xs ≤ k → answer 11 [] ≡ unless (notField 1 i (measuredEnd xs p) xs) a
+  unfolding measuredEnd
+  unmeasured i a f l = short 1 i (measuredEnd xs p) xs a h f (omega arith)
+
+  pub cut-off : (i : ℕ) (a : Answer) → flag xs i ≡ true → length xs < k + 1 + getD xs k 0 → answer 11 [] ≡ unless (notField 1 i (measuredEnd xs p) xs) a
+  unfolding measuredEnd
+  cut-off i a f l = rw (← q) (short 1 i (k + 1 + getD xs k 0) xs a h f l)
+
+  measured-there : (i : ℕ) (a : Answer) → flag xs i ≡ true → k + 1 + getD xs k 0 ≤ length xs → a ≡ unless (notField 1 i (measuredEnd xs p) xs) a
+  unfolding measuredEnd
+  measured-there i a f l = rw (← q) (there 1 i (k + 1 + getD xs k 0) xs a h f l)
+
+-- ---- the fields of the adaptation field
+
+-- six bytes from a place on are a clock reference
+module _ (xs : List ℕ) (k : ℕ) (l : k + 6 ≤ length xs) (r : control.ClockRead) (g : givenRead r ≡ readClock (take (length xs - k) (drop k xs))) where
+  pub clock-read : (c : ClockRef) → r ≡ control.ClockRead.Done c → answer 0 (clockValues c) ≡ clockAt xs k
   unfolding readClock
-  clock-part h = rw (part-rest k xs) (simp (le-ltb (length (drop k xs)) 6 (simp length-drop (omega arith))))
+  clock-read c e =
+      ap givenRead (sym e) ∙ (g ∙ rw (part-rest k xs) (simp (le-ltb (length (drop k xs)) 6 (simp length-drop (omega arith)))))
 
-  pub opcr-done : (k ≡ opcrAt xs) × Flagged xs opcrBit × (k + 6 ≤ length xs) → clockAt xs k ≡ readOpcr xs
-  opcr-done h = rw (← h .0) (there 1 opcrBit (k + 6) xs (clockAt xs k) (omega arith))
+  pub clock-never : r ≡ control.ClockRead.WrongLength → answer 11 [] ≡ clockAt xs k
+  clock-never e = absurd (omega (arith, clock-long _ _ _ (ap givenRead (sym e) ∙ g) (rw (part-rest k xs, length-drop) (omega arith))))
 
-  pub countdown-done : (k ≡ spliceAt xs) × Flagged xs spliceBit × (k < length xs) → answer 0 (getD xs k 0 ∷ []) ≡ readSpliceCountdown xs
-  countdown-done h = rw (← h .0) (there 1 spliceBit (k + 1) xs (answer 0 (getD xs k 0 ∷ [])) (omega arith))
+module _ (xs : List ℕ) (h : length xs ≡ 0 → ⊥) (r : ClockRead) where
+  pub pcr-done : flag xs pcrBit ≡ true → 7 ≤ length xs → givenClock r ≡ clockAt xs 1 → givenClock r ≡ readPcr xs
+  pcr-done f l g = g ∙ there 1 pcrBit 7 xs (clockAt xs 1) h f l
 
-  -- a length byte and its bytes
-  pub measured-short : (i p : ℕ) (a : Answer) → (k ≡ p) × Flagged xs i × (length xs < k + 1 + getD xs k 0) → answer 11 [] ≡ optional 1 i (measuredEnd xs p) xs a
-  unfolding measuredEnd
-  measured-short i p a h = rw (← h .0) (short 1 i (k + 1 + getD xs k 0) xs a (omega arith))
+  pub opcr-done : (k : ℕ) → k ≡ opcrAt xs → flag xs opcrBit ≡ true → k + 6 ≤ length xs → givenClock r ≡ clockAt xs k → givenClock r ≡ readOpcr xs
+  opcr-done k q f l g = g ∙ rw (← q) (there 1 opcrBit (k + 6) xs (clockAt xs k) h f l)
 
-  pub measured-there : (i p : ℕ) (a : Answer) → (k ≡ p) × Flagged xs i × (k + 1 + getD xs k 0 ≤ length xs) → a ≡ optional 1 i (measuredEnd xs p) xs a
-  unfolding measuredEnd
-  measured-there i p a h = rw (← h .0) (there 1 i (k + 1 + getD xs k 0) xs a (omega arith))
+module _ (xs : List ℕ) (k : ℕ) (h : length xs ≡ 0 → ⊥) where
+  pub countdown-short : k ≡ spliceAt xs → flag xs spliceBit ≡ true → length xs ≤ k → answer 11 [] ≡ readSpliceCountdown xs
+  countdown-short q f l = short-at xs k _ q h 1 spliceBit 1 _ f (omega arith)
 
-  pub private-done : (k ≡ privateAt xs) × Flagged xs privateBit × (k + 1 + getD xs k 0 ≤ length xs) → measured xs k ≡ readPrivateData xs
-  private-done h = ap (measured xs) (h .0) ∙ measured-there privateBit (privateAt xs) (measured xs (privateAt xs)) (omega arith)
+  pub countdown-done : k ≡ spliceAt xs → flag xs spliceBit ≡ true → k < length xs → answer 0 (getD xs k 0 ∷ []) ≡ readSpliceCountdown xs
+  countdown-done q f l = rw (← q) (there 1 spliceBit (k + 1) xs (answer 0 (getD xs k 0 ∷ [])) h f (omega arith))
 
-  pub extension-empty : (k ≡ extensionAt xs) × Flagged xs extensionBit × (k + 1 + getD xs k 0 ≤ length xs) × (getD xs k 0 ≡ 0) → answer 11 [] ≡ readExtension xs
-  extension-empty h = rw (← h .0) (rw (eq-eqb (getD xs k 0) 0 (h .3)) (measured-there extensionBit k (answer 11 []) (omega arith)))
+  pub private-done : k ≡ privateAt xs → flag xs privateBit ≡ true → k + 1 + getD xs k 0 ≤ length xs → measured xs k ≡ readPrivateData xs
+  private-done q f l = ap (measured xs) q ∙ measured-there xs k _ q h privateBit _ f l
 
-  pub extension-done : (k ≡ extensionAt xs) × Flagged xs extensionBit × (k + 1 + getD xs k 0 ≤ length xs) × (0 < getD xs k 0) → measured xs k ≡ readExtension xs
-  extension-done h = rw (← h .0) (rw (ne-eqb (getD xs k 0) 0 (omega arith)) (measured-there extensionBit k (measured xs k) (omega arith)))
+  module _ (q : k ≡ extensionAt xs) (f : flag xs extensionBit ≡ true) (l : k + 1 + getD xs k 0 ≤ length xs) where
+    pub extension-empty : getD xs k 0 ≡ 0 → answer 11 [] ≡ readExtension xs
+    unfolding emptyExtension
+    extension-empty z = rw (← q, eq-eqb (getD xs k 0) 0 z) (measured-there xs k k refl h extensionBit (answer 11 []) f l)
 
-  -- the extension follows the private data, where that is there
-  pub extension-first : (k ≡ privateAt xs) × (bitOf xs privateBit ≡ 0) → k ≡ extensionAt xs
+    pub extension-done : (getD xs k 0 ≡ 0 → ⊥) → measured xs k ≡ readExtension xs
+    unfolding emptyExtension
+    extension-done z = rw (← q, ne-eqb (getD xs k 0) 0 z) (measured-there xs k k refl h extensionBit (measured xs k) f l)
+
+-- the extension follows the private data, where that is there
+module _ (xs : List ℕ) (k : ℕ) (q : k ≡ privateAt xs) where
+  pub extension-first : flag xs privateBit ≡ false → k ≡ extensionAt xs
   unfolding extensionAt
-  extension-first h = rw (flag-clear xs privateBit (h .1)) (h .0)
+  extension-first f = rw f q
 
-  pub extension-next : (v : ℕ) → (k ≡ privateAt xs) × (0 < bitOf xs privateBit) × (v ≡ k + 1 + getD xs k 0) → v ≡ extensionAt xs
+  pub extension-next : flag xs privateBit ≡ true → k + 1 + getD xs k 0 ≡ extensionAt xs
   unfolding extensionAt measuredEnd
-  extension-next v h = rw (flag-set xs privateBit (h .1), ← h .0) (h .2)
+  extension-next f = rw (f, ← q)
 
   -- past the end there is no length byte, and 0 is read for it
-  pub extension-past : (k ≡ privateAt xs) × (0 < bitOf xs privateBit) × (length xs ≤ k) → k + 1 ≡ extensionAt xs
-  extension-past h = extension-next (k + 1) (omega (arith, List·getD-eq-default xs 0 {n = k} (h .2)))
+  pub extension-past : flag xs privateBit ≡ true → length xs ≤ k → k + 1 ≡ extensionAt xs
+  extension-past f l = omega (arith, List·getD-eq-default xs 0 {n = k} l, extension-next f)
 
--- a reading that did not end in `Done` names no part: for the `else` of a `let`
-pub no-part : (r : PartRead) (a : Answer) (xs : List ℕ) → OneOf (1 ∷ 2 ∷ 3 ∷ []) (tagOf the-type r) → givenPart r ≡ a → [] ≡ partOf a xs
-unfolding partOf
-no-part (PartRead.Done p n) a xs k e = absurd (⊎-elim (λ q. omega arith) (⊎-elim (λ q. omega arith) (λ q. omega arith)) k)
-no-part PartRead.WrongLength a xs k e = rw (← e)
-no-part PartRead.FieldNotPresent a xs k e = rw (← e)
-no-part PartRead.NotEnoughData a xs k e = rw (← e)
+pub extension-small : (xs : List ℕ) (k : ℕ) → Known xs → k ≤ 14 → k + 1 + getD xs k 0 ≤ 270
+extension-small xs k b l = omega (arith, b k)
+
+-- ---- both parts lie within the bytes
+
+measured-within : (xs : List ℕ) (k : ℕ) → measuredEnd xs k ≤ length xs → Within (measured xs k) xs
+unfolding measuredEnd
+measured-within xs k l = λ z. l
+
+pub private-within : (xs : List ℕ) → Within (readPrivateData xs) xs
+unfolding notField
+private-within xs =
+    unless-within (notField 1 privateBit (measuredEnd xs (privateAt xs)) xs) _ xs (omega arith) (λ o. measured-within xs _ (ltb-false (length xs) _ (o .1 .1 .0)))
+
+pub extension-within : (xs : List ℕ) → Within (readExtension xs) xs
+unfolding notField emptyExtension
+extension-within xs =
+    unless-within (notField 1 extensionBit (measuredEnd xs (extensionAt xs)) xs) _ xs (omega arith) (λ o.
+    unless-within (emptyExtension xs) _ xs (omega arith) (λ u. measured-within xs _ (ltb-false (length xs) _ (o .1 .1 .0))))
+
+-- an answer that is not `Done` is a refusal
+refused : (r : PartRead) → OneOf (1 ∷ 2 ∷ 3 ∷ []) (tagOf the-type r) → givenPart r .number ≡ 0 → ⊥
+refused (PartRead.Done p n) k z = ⊎-elim (λ e. omega arith) (⊎-elim (λ e. omega arith) (λ e. omega arith)) k
+refused PartRead.WrongLength k z = omega arith
+refused PartRead.FieldNotPresent k z = omega arith
+refused PartRead.NotEnoughData k z = omega arith
+
+-- a part, by where it is said to lie
+pub no-part : (xs : List ℕ) (a : Answer) (r : PartRead) → OneOf (1 ∷ 2 ∷ 3 ∷ []) (tagOf the-type r) → givenPart r ≡ a → [] ≡ partOf a xs
+no-part xs a r k e = part-refused a xs (λ z. refused r k (ap (λ (x : Answer). x .number) e ∙ z))
+
+module _ (xs x : List ℕ) (r : PartRead) (p n : ℕ) (e : r ≡ PartRead.Done p n) (f : x ≡ partAt p n xs) where
+  pub private-part : givenPart r ≡ readPrivateData xs → x ≡ partOf (readPrivateData xs) xs
+  private-part g = f ∙ part-done _ _ p n (ap givenPart (sym e) ∙ g) (private-within xs)
+
+  pub extension-part : givenPart r ≡ readExtension xs → x ≡ partOf (readExtension xs) xs
+  extension-part g = f ∙ part-done _ _ p n (ap givenPart (sym e) ∙ g) (extension-within xs)
 
 -- ---- the fields of the extension
 
 module _ (xs : List ℕ) where
-  pub window-not-valid : Flagged xs ltwBit × (3 ≤ length xs) × (bitOf xs (8 * ltwAt) ≡ 0) → answer 0 (0 ∷ []) ≡ readLtw xs
-  window-not-valid h = rw (flag-clear xs (8 * ltwAt) (h .2)) (there 11 ltwBit 3 xs (answer 0 (0 ∷ [])) (omega arith))
-
   window-of : field xs 9 15 ≡ getD xs 1 0 % 128 * 256 + getD xs 2 0 % 256
   window-of = omega (arith, field-split xs 9 7 8, in-byte xs 1 1 7 0 refl, in-byte xs 2 0 8 0 refl)
 
-  pub window-valid : (n : ℕ) → Flagged xs ltwBit × (3 ≤ length xs) × (0 < bitOf xs (8 * ltwAt)) × (n ≡ getD xs 1 0 % 128 * 256 + getD xs 2 0 % 256)
-      → answer 0 (1 ∷ n ∷ []) ≡ readLtw xs
-  window-valid n h = rw (flag-set xs (8 * ltwAt) (h .2), h .3, ← window-of) (there 11 ltwBit 3 xs (answer 0 (1 ∷ field xs 9 15 ∷ [])) (omega arith))
+  pub window-fits : Known xs → getD xs 1 0 % 128 * 256 + getD xs 2 0 < 2 ^ 16
+  window-fits k = omega (arith, k 2)
+
+  module _ (h : length xs ≡ 0 → ⊥) (f : flag xs ltwBit ≡ true) (l : 3 ≤ length xs) where
+    pub window-not-valid : flag xs (8 * ltwAt) ≡ false → answer 0 (0 ∷ []) ≡ readLtw xs
+    window-not-valid v = rw v (there 11 ltwBit 3 xs (answer 0 (0 ∷ [])) h f l)
+
+    pub window-valid : Known xs → flag xs (8 * ltwAt) ≡ true → answer 0 (1 ∷ (getD xs 1 0 % 128 * 256 + getD xs 2 0) ∷ []) ≡ readLtw xs
+    window-valid k v =
+        let e : getD xs 1 0 % 128 * 256 + getD xs 2 0 ≡ field xs 9 15 = omega (arith, window-of, k 2) in
+        rw (v, e) (there 11 ltwBit 3 xs (answer 0 (1 ∷ field xs 9 15 ∷ [])) h f l)
 
   rate-first : field xs 2 22 ≡ getD xs 0 0 % 64 * 65536 + getD xs 1 0 % 256 * 256 + getD xs 2 0 % 256
   rate-first = omega (arith, field-split xs 2 6 16, field-split xs 8 8 8, in-byte xs 0 2 6 0 refl, in-byte xs 1 0 8 0 refl, in-byte xs 2 0 8 0 refl)
 
-module _ (xs : List ℕ) (k : ℕ) where
-  rate-of : field xs (8 * k + 2) 22 ≡ getD xs k 0 % 64 * 65536 + getD xs (k + 1) 0 % 256 * 256 + getD xs (k + 2) 0 % 256
-  rate-of = sym (field-drop xs k 2 22) ∙ (rate-first (drop k xs) ∙ simp (getD-drop, add-zero))
+module _ (xs : List ℕ) (k : ℕ) (b : Known xs) where
+  -- the sums of the code stay below 2 ^ 32
+  pub byte-up : getD xs (k + 1) 0 * 256 < 2 ^ 32
+  byte-up = omega (arith, b (k + 1))
 
-  pub rate-done : (n : ℕ) → (k ≡ rateAt xs) × Flagged xs rateBit × (k + 3 ≤ length xs)
-      × (n ≡ getD xs k 0 % 64 * 65536 + getD xs (k + 1) 0 % 256 * 256 + getD xs (k + 2) 0 % 256) → answer 0 (n ∷ []) ≡ readRate xs
-  rate-done n h = rw (← h .0, h .3, ← rate-of) (there 11 rateBit (k + 3) xs (answer 0 (field xs (8 * k + 2) 22 ∷ [])) (omega arith))
+  pub rate-upper : getD xs k 0 % 64 * 65536 + getD xs (k + 1) 0 * 256 < 2 ^ 32
+  rate-upper = omega (arith, b (k + 1))
 
-  -- the answer `a` of the time, with the type before it
-  pub splice-read : (t : ℕ) (a : Answer) → a ≡ readStamp (take (length xs - k) (drop k xs))
-      → (k ≡ seamlessAt xs) × Flagged xs seamlessBit × (k + 5 ≤ length xs) × (t ≡ getD xs k 0 / 16 % 16) → typed t a ≡ readSplice xs
-  splice-read t a e h =
-      let f : field xs (8 * k) 4 ≡ t = ap (λ (o : ℕ). field xs o 4) (sym (add-zero (8 * k))) ∙ (in-byte xs k 0 4 4 refl ∙ sym (h .3)) in
-      rw (← h .0, f, ← part-rest k xs, ← e) (there 11 seamlessBit (k + 5) xs (typed t a) (omega arith))
+  pub rate-fits : getD xs k 0 % 64 * 65536 + getD xs (k + 1) 0 * 256 + getD xs (k + 2) 0 < 2 ^ 32
+  rate-fits = omega (arith, b (k + 1), b (k + 2))
 
-  pub splice-refused : (n : ℕ) (vs : List ℕ) → answer n vs ≡ readStamp (take (length xs - k) (drop k xs))
-      → (k ≡ seamlessAt xs) × Flagged xs seamlessBit × (k + 5 ≤ length xs) × (n ≡ 0 → ⊥) → answer n vs ≡ readSplice xs
-  splice-refused n vs e h =
-      let t = getD xs k 0 / 16 % 16 in
-      ap (λ (b : Bool). pick b (answer 0 (t ∷ vs)) (answer n vs)) (sym (ne-eqb n 0 (h .3))) ∙ splice-read t (answer n vs) e (omega arith)
+  rate-of : getD xs k 0 % 64 * 65536 + getD xs (k + 1) 0 * 256 + getD xs (k + 2) 0 ≡ field xs (8 * k + 2) 22
+  rate-of =
+      let e : field xs (8 * k + 2) 22 ≡ getD xs k 0 % 64 * 65536 + getD xs (k + 1) 0 % 256 * 256 + getD xs (k + 2) 0 % 256
+      = sym (field-drop xs k 2 22) ∙ (rate-first (drop k xs) ∙ simp (getD-drop, add-zero)) in
+      omega (arith, b (k + 1), b (k + 2))
+
+  pub rate-done : k ≡ rateAt xs → (length xs ≡ 0 → ⊥) → flag xs rateBit ≡ true → k + 3 ≤ length xs
+      → answer 0 ((getD xs k 0 % 64 * 65536 + getD xs (k + 1) 0 * 256 + getD xs (k + 2) 0) ∷ []) ≡ readRate xs
+  rate-done q h f l = rw (← q, rate-of) (there 11 rateBit (k + 3) xs (answer 0 (field xs (8 * k + 2) 22 ∷ [])) h f l)
+
+-- a splice, by what the reader of its time answers: the bytes from its place on are as the code takes them
+module _ (xs : List ℕ) (k : ℕ) (q : k ≡ seamlessAt xs) (h : length xs ≡ 0 → ⊥) (f : flag xs seamlessBit ≡ true) (l : k + 5 ≤ length xs)
+    (r : TimestampRead) (g : given r ≡ readStamp (take (length xs - k) (drop k xs))) where
+  -- the type, and the time's answer
+  splice-is : (s : TimestampRead) → r ≡ s → typed (getD xs k 0 / 16 % 16) (given s) ≡ readSplice xs
+  splice-is s e =
+      let t : field xs (8 * k) 4 ≡ getD xs k 0 / 16 % 16 = ap (λ (o : ℕ). field xs o 4) (sym (add-zero (8 * k))) ∙ in-byte xs k 0 4 4 refl in
+      rw (← q, t, ← part-rest k xs, ← g, e) (there 11 seamlessBit (k + 5) xs (typed (getD xs k 0 / 16 % 16) (given s)) h f l)
+
+  pub splice-done : (t : Timestamp) → Known xs → r ≡ TimestampRead.Done t → answer 0 (getD xs k 0 / 16 ∷ t .val ∷ []) ≡ readSplice xs
+  splice-done t b e =
+      let n : getD xs k 0 / 16 ≡ getD xs k 0 / 16 % 16 = omega (arith, b k) in
+      rw n (splice-is _ e)
+
+  pub splice-marker : (b : ℕ) → r ≡ TimestampRead.MarkerBitNotSet b → answer 12 (b ∷ []) ≡ readSplice xs
+  splice-marker b e = splice-is _ e
+
+  -- what timestamp's `stamp-long` says of the number: neither 1 nor 13 can arise
+  long : (s : TimestampRead) → r ≡ s → given s .number % 12 ≡ 0
+  long s e = stamp-long _ _ (given s .values) (ap given (sym e) ∙ g) (rw (part-rest k xs, length-drop) (omega arith))
+
+  pub splice-short : r ≡ TimestampRead.WrongLength → answer 11 [] ≡ readSplice xs
+  splice-short e = absurd (omega (arith, long _ e))
+
+  pub splice-prefix : (x y : ℕ) → r ≡ TimestampRead.IncorrectPrefixBits x y → answer 11 [] ≡ readSplice xs
+  splice-prefix x y e = absurd (omega (arith, long _ e))
+
+pub ruleset adaptation-laws = (byte-fits, end-fits, flag-clear, flag-on, last-off, last-on, flag-short, flag-done, empty, absent, short, short-at, unmeasured, cut-off, clock-read, clock-never, pcr-done, opcr-done, countdown-short, countdown-done, private-done, extension-empty, extension-done, extension-first, extension-next, extension-past, extension-small, no-part, private-part, extension-part, window-fits, window-not-valid, window-valid, byte-up, rate-upper, rate-fits, rate-done, splice-done, splice-marker, splice-short, splice-prefix, needs)

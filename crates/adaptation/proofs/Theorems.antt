@@ -1,13 +1,11 @@
--- The crate's theorems that belong to no one function: one answer only, and parts that lie within the bytes.
+-- The crate's theorems that belong to no one function: one answer only.
 -- Assumes nothing.
 use mathlib.Core.Path.{_≡_, refl}
-use mathlib.Core.Bool.{Bool, true, false}
-use mathlib.Core.List.{List, []}
-use Prim.Native.Nat.{ℕ, _≤_}
-use native.Mathlib.Omega.{arith}
-use lib.ListN.{length, getD}
+use mathlib.Core.Bool.{true, false}
+use Prim.Native.Nat.{ℕ}
+use lib.ListN.{getD}
 use lib.Dec.{eqb}
-use Rattle.bits.specs.Answer.{Answer, answer, pick, Within}
+use Rattle.bits.specs.Answer.{Answer, pick}
 use Rattle.bits.proofs.Tests.{one-answer}
 use Rattle.adaptation.specs.declared.FlagRead.{FlagRead}
 use Rattle.adaptation.specs.declared.ClockRead.{ClockRead}
@@ -16,10 +14,8 @@ use Rattle.adaptation.specs.declared.PartRead.{PartRead}
 use Rattle.adaptation.specs.declared.extension.LtwRead.{LtwRead}
 use Rattle.adaptation.specs.declared.extension.RateRead.{RateRead}
 use Rattle.adaptation.specs.declared.extension.SpliceRead.{SpliceRead}
-use Rattle.adaptation.specs.Adaptation.{givenFlag, givenClock, givenByte, givenPart, privateBit, extensionBit, measured, measuredEnd}
-use Rattle.adaptation.specs.Adaptation.{privateAt, extensionAt, readPrivateData, readExtension}
+use Rattle.adaptation.specs.Adaptation.{givenFlag, givenClock, givenByte, givenPart}
 use Rattle.adaptation.specs.Extension.{givenLtw, givenRate, givenSplice}
-use Rattle.adaptation.proofs.Laws.{optional-within}
 
 -- ---- one answer only
 -- Readers share their answers' types, so each theorem is over any right side: with `readPcr xs` for `s` it is that of `pcr`.
@@ -124,24 +120,3 @@ spliceBack-given (SpliceRead.MarkerBitNotSet b) = refl
 
 pub one-splice : (s : Answer) (a b : SpliceRead) → givenSplice a ≡ s → givenSplice b ≡ s → a ≡ b
 one-splice = one-answer givenSplice spliceBack spliceBack-given
-
--- ---- the part that an answer names lies within the bytes
-
-measured-within : (xs : List ℕ) (k : ℕ) → measuredEnd xs k ≤ length xs → Within (measured xs k) xs
-unfolding measuredEnd
-measured-within xs k h = λ z. h
-
-pub private-within : (xs : List ℕ) → Within (readPrivateData xs) xs
-private-within xs =
-    let k = privateAt xs in
-    optional-within 1 privateBit (measuredEnd xs k) xs (measured xs k) (omega arith) (measured-within xs k)
-
-pub extension-within : (xs : List ℕ) → Within (readExtension xs) xs
-extension-within xs =
-    let k = extensionAt xs in
-    optional-within 1 extensionBit (measuredEnd xs k) xs (pick (eqb (getD xs k 0) 0) (answer 11 []) (measured xs k)) (omega arith)
-    (λ h. go (eqb (getD xs k 0) 0) h)
-  where
-    go : (b : Bool) → measuredEnd xs (extensionAt xs) ≤ length xs → Within (pick b (answer 11 []) (measured xs (extensionAt xs))) xs
-    go true h = λ z. absurd (omega arith)
-    go false h = measured-within xs (extensionAt xs) h

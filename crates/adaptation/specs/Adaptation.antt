@@ -1,11 +1,12 @@
 -- The adaptation field, without its length byte (clause 2.4.3.4, the adaptation field table): a byte of flags, and then, each there
 -- where its flag is set, one after another:
 --   PCR 6 bytes, OPCR 6 bytes, splice_countdown 1 byte, private data (length byte, then data), extension (length byte, then data).
+use mathlib.Core.Bool.{not}
 use mathlib.Core.List.{List, [], _∷_}
 use Prim.Native.Nat.{ℕ, _+_, _*_}
 use lib.ListN.{length, getD, drop}
-use lib.Dec.{eqb, leb}
-use Rattle.bits.specs.Answer.{Answer, answer, pick, truth}
+use lib.Dec.{eqb, ltb}
+use Rattle.bits.specs.Answer.{Answer, answer, pick, truth, Check, _gives_, unless}
 use Rattle.bits.specs.Field.{bit, flag}
 use Rattle.bits.specs.Numbers.{done, wrongLength, fieldNotPresent, notEnoughData}
 use Rattle.control.specs.Clock.{clockBase, clockExtension, clockValues}
@@ -40,17 +41,20 @@ givenPart PartRead.NotEnoughData = answer notEnoughData []
 
 -- ---- what is read
 
--- a field that its flag, bit i, says is there, and that ends before byte e: the number given where there are no bytes at all,
--- 9 where the flag is clear, 11 where the field would pass the end, else what is read of it
-unfoldable pub optional : ℕ → ℕ → ℕ → List ℕ → Answer → Answer
-optional none i e xs a =
-    pick (eqb (length xs) 0) (answer none [])
-    (pick (flag xs i) (pick (leb e (length xs)) a (answer notEnoughData []))
-    (answer fieldNotPresent []))
+-- an adaptation field of no bytes
+unfoldable pub noFlags : List ℕ → List Check
+noFlags xs = eqb (length xs) 0 gives wrongLength ∷ []
+
+-- a field that its flag, bit i, says is there, and that ends before byte e; no bytes at all are 1 in the adaptation field, 11 in its extension
+unfoldable pub notField : ℕ → ℕ → ℕ → List ℕ → List Check
+notField none i e xs =
+    eqb (length xs) 0 gives none
+    ∷ not (flag xs i) gives fieldNotPresent
+    ∷ ltb (length xs) e gives notEnoughData ∷ []
 
 -- discontinuity_indicator, random_access_indicator, elementary_stream_priority_indicator: the first three bits
 unfoldable pub readFlag : ℕ → List ℕ → Answer
-readFlag i xs = pick (eqb (length xs) 0) (answer wrongLength []) (answer done (truth (flag xs i) ∷ []))
+readFlag i xs = unless (noFlags xs) (answer done (truth (flag xs i) ∷ []))
 
 -- the next five: PCR_flag, OPCR_flag, splicing_point_flag, transport_private_data_flag, adaptation_field_extension_flag
 abbrev pub pcrBit : ℕ
@@ -93,23 +97,26 @@ abbrev pub clockAt : List ℕ → ℕ → Answer
 clockAt xs k = answer done (clockBase (drop k xs) ∷ clockExtension (drop k xs) ∷ [])
 
 abbrev pub readPcr : List ℕ → Answer
-readPcr xs = optional wrongLength pcrBit (pcrAt + 6) xs (clockAt xs pcrAt)
+readPcr xs = unless (notField wrongLength pcrBit (pcrAt + 6) xs) (clockAt xs pcrAt)
 
 abbrev pub readOpcr : List ℕ → Answer
-readOpcr xs = optional wrongLength opcrBit (opcrAt xs + 6) xs (clockAt xs (opcrAt xs))
+readOpcr xs = unless (notField wrongLength opcrBit (opcrAt xs + 6) xs) (clockAt xs (opcrAt xs))
 
 abbrev pub readSpliceCountdown : List ℕ → Answer
-readSpliceCountdown xs = optional wrongLength spliceBit (spliceAt xs + 1) xs (answer done (getD xs (spliceAt xs) 0 ∷ []))
+readSpliceCountdown xs = unless (notField wrongLength spliceBit (spliceAt xs + 1) xs) (answer done (getD xs (spliceAt xs) 0 ∷ []))
 
 -- the bytes after a length byte, as place and length
 abbrev pub measured : List ℕ → ℕ → Answer
 measured xs k = answer done ((k + 1) ∷ getD xs k 0 ∷ [])
 
 abbrev pub readPrivateData : List ℕ → Answer
-readPrivateData xs = optional wrongLength privateBit (measuredEnd xs (privateAt xs)) xs (measured xs (privateAt xs))
+readPrivateData xs = unless (notField wrongLength privateBit (measuredEnd xs (privateAt xs)) xs) (measured xs (privateAt xs))
 
--- an extension of no bytes is 11
+-- an extension of no bytes
+unfoldable pub emptyExtension : List ℕ → List Check
+emptyExtension xs = eqb (getD xs (extensionAt xs) 0) 0 gives notEnoughData ∷ []
+
 abbrev pub readExtension : List ℕ → Answer
 readExtension xs =
-    optional wrongLength extensionBit (measuredEnd xs (extensionAt xs)) xs
-    (pick (eqb (getD xs (extensionAt xs) 0) 0) (answer notEnoughData []) (measured xs (extensionAt xs)))
+    unless (notField wrongLength extensionBit (measuredEnd xs (extensionAt xs)) xs)
+    (unless (emptyExtension xs) (measured xs (extensionAt xs)))

@@ -5,11 +5,11 @@ use mathlib.Core.List.{List, [], _∷_}
 use Prim.Native.Nat.{ℕ, _+_, _*_}
 use lib.ListN.{drop}
 use lib.Dec.{eqb}
-use Rattle.bits.specs.Answer.{Answer, answer, pick}
+use Rattle.bits.specs.Answer.{Answer, answer, pick, unless}
 use Rattle.bits.specs.Field.{bit, field, flag}
 use Rattle.bits.specs.Numbers.{done, fieldNotPresent, notEnoughData, markerBitNotSet}
 use Rattle.timestamp.specs.Stamp.{readStamp}
-use Rattle.adaptation.specs.Adaptation.{optional}
+use Rattle.adaptation.specs.Adaptation.{notField}
 use Rattle.adaptation.specs.declared.extension.LtwRead.{LtwRead}
 use Rattle.adaptation.specs.declared.extension.RateRead.{RateRead}
 use Rattle.adaptation.specs.declared.extension.SpliceRead.{SpliceRead}
@@ -59,11 +59,11 @@ seamlessAt xs = rateAt xs + 3 * bit xs rateBit
 
 abbrev pub readLtw : List ℕ → Answer
 readLtw xs =
-    optional notEnoughData ltwBit (ltwAt + 2) xs
+    unless (notField notEnoughData ltwBit (ltwAt + 2) xs)
     (pick (flag xs (8 * ltwAt)) (answer done (1 ∷ field xs (8 * ltwAt + 1) 15 ∷ [])) (answer done (0 ∷ [])))
 
 abbrev pub readRate : List ℕ → Answer
-readRate xs = optional notEnoughData rateBit (rateAt xs + 3) xs (answer done (field xs (8 * rateAt xs + 2) 22 ∷ []))
+readRate xs = unless (notField notEnoughData rateBit (rateAt xs + 3) xs) (answer done (field xs (8 * rateAt xs + 2) 22 ∷ []))
 
 -- a splice's type before its time, where the time can be read, else what the time's reading answers
 abbrev pub typed : ℕ → Answer → Answer
@@ -71,5 +71,5 @@ typed t a = pick (eqb (a .number) done) (answer done (t ∷ a .values)) a
 
 abbrev pub readSplice : List ℕ → Answer
 readSplice xs =
-    optional notEnoughData seamlessBit (seamlessAt xs + 5) xs
+    unless (notField notEnoughData seamlessBit (seamlessAt xs + 5) xs)
     (typed (field xs (8 * seamlessAt xs) 4) (readStamp (drop (seamlessAt xs) xs)))
