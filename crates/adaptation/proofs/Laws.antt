@@ -10,7 +10,7 @@ use native.Mathlib.Nat.{add-zero}
 use native.Mathlib.Omega.{arith}
 use lib.ListN.{length, getD, take, drop, length-drop, List·getD-eq-default}
 use lib.Seq.{getD-drop}
-use lib.Dec.{T, eqb, leb, leb→le}
+use lib.Dec.{eqb}
 use types.Run.{OneOf}
 use denote.Enum.Declared.{tagOf}
 use mir.Val.{Fits}
@@ -38,19 +38,13 @@ use Rattle.adaptation.specs.Adaptation.{privateBit, extensionBit, measur
 use Rattle.adaptation.specs.Adaptation.{readPcr, readOpcr, readSpliceCountdown, readPrivateData, readExtension}
 use Rattle.adaptation.specs.Extension.{ltwBit, rateBit, seamlessBit, ltwAt, readLtw, readRate, readSplice, rateAt, seamlessAt, typed}
 
--- ---- bytes and flags
+-- ---- flags and bytes
 
 -- each entry is a byte, as the borrow checker says it
 abbrev Known : List ℕ → Type 0
 Known xs = (i : ℕ) → Fits w8 (getD xs i 0)
 
 module _ (xs : List ℕ) where
-  pub byte-fits : (i m : ℕ) → Known xs → T (leb 256 m) → getD xs i 0 < m
-  byte-fits i m k t = omega (arith, k i, leb→le 256 m t)
-
-  pub end-fits : (k m : ℕ) → Known xs → k ≤ m → T (leb m 270) → k + 1 + getD xs k 0 < 2 ^ 64
-  end-fits k m b l t = omega (arith, b k, leb→le m 270 t)
-
   pub flag-on : (i : ℕ) → (bitOf xs i ≡ 0 → ⊥) → flag xs i ≡ true
   flag-on i h = flag-set xs i (omega arith)
 
@@ -104,13 +98,13 @@ module _ (xs : List ℕ) (k p : ℕ) (q : k ≡ p) (h : length xs ≡ 0 → ⊥)
   unfolding measuredEnd
   unmeasured i a f l = short 1 i (measuredEnd xs p) xs a h f (omega arith)
 
-  pub cut-off : (i : ℕ) (a : Answer) → flag xs i ≡ true → length xs < k + 1 + getD xs k 0 → answer 11 [] ≡ unless (notField 1 i (measuredEnd xs p) xs) a
+  pub cut-off : (i n : ℕ) (a : Answer) → flag xs i ≡ true → n ≡ getD xs k 0 → length xs < k + 1 + n → answer 11 [] ≡ unless (notField 1 i (measuredEnd xs p) xs) a
   unfolding measuredEnd
-  cut-off i a f l = rw (← q) (short 1 i (k + 1 + getD xs k 0) xs a h f l)
+  cut-off i n a f e l = rw (← q, ← e) (short 1 i (k + 1 + n) xs a h f l)
 
-  measured-there : (i : ℕ) (a : Answer) → flag xs i ≡ true → k + 1 + getD xs k 0 ≤ length xs → a ≡ unless (notField 1 i (measuredEnd xs p) xs) a
+  measured-there : (i n : ℕ) (a : Answer) → flag xs i ≡ true → n ≡ getD xs k 0 → k + 1 + n ≤ length xs → a ≡ unless (notField 1 i (measuredEnd xs p) xs) a
   unfolding measuredEnd
-  measured-there i a f l = rw (← q) (there 1 i (k + 1 + getD xs k 0) xs a h f l)
+  measured-there i n a f e l = rw (← q, ← e) (there 1 i (k + 1 + n) xs a h f l)
 
 -- ---- the fields of the adaptation field
 
@@ -138,17 +132,18 @@ module _ (xs : List ℕ) (k : ℕ) (h : length xs ≡ 0 → ⊥) where
   pub countdown-done : k ≡ spliceAt xs → flag xs spliceBit ≡ true → k < length xs → answer 0 (getD xs k 0 ∷ []) ≡ readSpliceCountdown xs
   countdown-done q f l = rw (← q) (there 1 spliceBit (k + 1) xs (answer 0 (getD xs k 0 ∷ [])) h f (omega arith))
 
-  pub private-done : k ≡ privateAt xs → flag xs privateBit ≡ true → k + 1 + getD xs k 0 ≤ length xs → measured xs k ≡ readPrivateData xs
-  private-done q f l = ap (measured xs) q ∙ measured-there xs k _ q h privateBit _ f l
+  module _ (n : ℕ) (e : n ≡ getD xs k 0) (l : k + 1 + n ≤ length xs) where
+    pub private-done : k ≡ privateAt xs → flag xs privateBit ≡ true → answer 0 ((k + 1) ∷ n ∷ []) ≡ readPrivateData xs
+    private-done q f = rw (e, ← q) (measured-there xs k k refl h privateBit n _ f e l)
 
-  module _ (q : k ≡ extensionAt xs) (f : flag xs extensionBit ≡ true) (l : k + 1 + getD xs k 0 ≤ length xs) where
-    pub extension-empty : getD xs k 0 ≡ 0 → answer 11 [] ≡ readExtension xs
-    unfolding emptyExtension
-    extension-empty z = rw (← q, eq-eqb (getD xs k 0) 0 z) (measured-there xs k k refl h extensionBit (answer 11 []) f l)
+    module _ (q : k ≡ extensionAt xs) (f : flag xs extensionBit ≡ true) where
+      pub extension-empty : n ≡ 0 → answer 11 [] ≡ readExtension xs
+      unfolding emptyExtension
+      extension-empty z = rw (← q, ← e, eq-eqb n 0 z) (measured-there xs k k refl h extensionBit n (answer 11 []) f e l)
 
-    pub extension-done : (getD xs k 0 ≡ 0 → ⊥) → measured xs k ≡ readExtension xs
-    unfolding emptyExtension
-    extension-done z = rw (← q, ne-eqb (getD xs k 0) 0 z) (measured-there xs k k refl h extensionBit (measured xs k) f l)
+      pub extension-done : (n ≡ 0 → ⊥) → answer 0 ((k + 1) ∷ n ∷ []) ≡ readExtension xs
+      unfolding emptyExtension
+      extension-done z = rw (← q, ← e, ne-eqb n 0 z) (measured-there xs k k refl h extensionBit n (answer 0 ((k + 1) ∷ n ∷ [])) f e l)
 
 -- the extension follows the private data, where that is there
 module _ (xs : List ℕ) (k : ℕ) (q : k ≡ privateAt xs) where
@@ -156,16 +151,16 @@ module _ (xs : List ℕ) (k : ℕ) (q : k ≡ privateAt xs) where
   unfolding extensionAt
   extension-first f = rw f q
 
-  pub extension-next : flag xs privateBit ≡ true → k + 1 + getD xs k 0 ≡ extensionAt xs
+  pub extension-next : (n : ℕ) → n ≡ getD xs k 0 → flag xs privateBit ≡ true → k + 1 + n ≡ extensionAt xs
   unfolding extensionAt measuredEnd
-  extension-next f = rw (f, ← q)
+  extension-next n e f = rw (f, ← q, e)
 
   -- past the end there is no length byte, and 0 is read for it
   pub extension-past : flag xs privateBit ≡ true → length xs ≤ k → k + 1 ≡ extensionAt xs
-  extension-past f l = omega (arith, List·getD-eq-default xs 0 {n = k} l, extension-next f)
+  extension-past f l = omega (arith, extension-next 0 (sym (List·getD-eq-default xs 0 {n = k} l)) f)
 
-pub extension-small : (xs : List ℕ) (k : ℕ) → Known xs → k ≤ 14 → k + 1 + getD xs k 0 ≤ 270
-extension-small xs k b l = omega (arith, b k)
+pub extension-small : (k n : ℕ) → k ≤ 14 → n < 256 → k + 1 + n ≤ 270
+extension-small k n l b = omega arith
 
 -- ---- both parts lie within the bytes
 
@@ -208,41 +203,29 @@ module _ (xs : List ℕ) where
   window-of : field xs 9 15 ≡ getD xs 1 0 % 128 * 256 + getD xs 2 0 % 256
   window-of = omega (arith, field-split xs 9 7 8, in-byte xs 1 1 7 0 refl, in-byte xs 2 0 8 0 refl)
 
-  pub window-fits : Known xs → getD xs 1 0 % 128 * 256 + getD xs 2 0 < 2 ^ 16
-  window-fits k = omega (arith, k 2)
-
   module _ (h : length xs ≡ 0 → ⊥) (f : flag xs ltwBit ≡ true) (l : 3 ≤ length xs) where
     pub window-not-valid : flag xs (8 * ltwAt) ≡ false → answer 0 (0 ∷ []) ≡ readLtw xs
     window-not-valid v = rw v (there 11 ltwBit 3 xs (answer 0 (0 ∷ [])) h f l)
 
-    pub window-valid : Known xs → flag xs (8 * ltwAt) ≡ true → answer 0 (1 ∷ (getD xs 1 0 % 128 * 256 + getD xs 2 0) ∷ []) ≡ readLtw xs
-    window-valid k v =
-        let e : getD xs 1 0 % 128 * 256 + getD xs 2 0 ≡ field xs 9 15 = omega (arith, window-of, k 2) in
-        rw (v, e) (there 11 ltwBit 3 xs (answer 0 (1 ∷ field xs 9 15 ∷ [])) h f l)
+    pub window-valid : (u v : ℕ) → flag xs (8 * ltwAt) ≡ true → (u ≡ getD xs 1 0) × (u < 256) → (v ≡ getD xs 2 0) × (v < 256)
+        → answer 0 (1 ∷ (u % 128 * 256 + v) ∷ []) ≡ readLtw xs
+    window-valid u v w i j =
+        let e : u % 128 * 256 + v ≡ field xs 9 15 = omega (arith, window-of) in
+        rw (w, e) (there 11 ltwBit 3 xs (answer 0 (1 ∷ field xs 9 15 ∷ [])) h f l)
 
   rate-first : field xs 2 22 ≡ getD xs 0 0 % 64 * 65536 + getD xs 1 0 % 256 * 256 + getD xs 2 0 % 256
   rate-first = omega (arith, field-split xs 2 6 16, field-split xs 8 8 8, in-byte xs 0 2 6 0 refl, in-byte xs 1 0 8 0 refl, in-byte xs 2 0 8 0 refl)
 
-module _ (xs : List ℕ) (k : ℕ) (b : Known xs) where
-  -- the sums of the code stay below 2 ^ 32
-  pub byte-up : getD xs (k + 1) 0 * 256 < 2 ^ 32
-  byte-up = omega (arith, b (k + 1))
+module _ (xs : List ℕ) (k : ℕ) where
+  rate-of : field xs (8 * k + 2) 22 ≡ getD xs k 0 % 64 * 65536 + getD xs (k + 1) 0 % 256 * 256 + getD xs (k + 2) 0 % 256
+  rate-of = sym (field-drop xs k 2 22) ∙ (rate-first (drop k xs) ∙ simp (getD-drop, add-zero))
 
-  pub rate-upper : getD xs k 0 % 64 * 65536 + getD xs (k + 1) 0 * 256 < 2 ^ 32
-  rate-upper = omega (arith, b (k + 1))
-
-  pub rate-fits : getD xs k 0 % 64 * 65536 + getD xs (k + 1) 0 * 256 + getD xs (k + 2) 0 < 2 ^ 32
-  rate-fits = omega (arith, b (k + 1), b (k + 2))
-
-  rate-of : getD xs k 0 % 64 * 65536 + getD xs (k + 1) 0 * 256 + getD xs (k + 2) 0 ≡ field xs (8 * k + 2) 22
-  rate-of =
-      let e : field xs (8 * k + 2) 22 ≡ getD xs k 0 % 64 * 65536 + getD xs (k + 1) 0 % 256 * 256 + getD xs (k + 2) 0 % 256
-      = sym (field-drop xs k 2 22) ∙ (rate-first (drop k xs) ∙ simp (getD-drop, add-zero)) in
-      omega (arith, b (k + 1), b (k + 2))
-
-  pub rate-done : k ≡ rateAt xs → (length xs ≡ 0 → ⊥) → flag xs rateBit ≡ true → k + 3 ≤ length xs
-      → answer 0 ((getD xs k 0 % 64 * 65536 + getD xs (k + 1) 0 * 256 + getD xs (k + 2) 0) ∷ []) ≡ readRate xs
-  rate-done q h f l = rw (← q, rate-of) (there 11 rateBit (k + 3) xs (answer 0 (field xs (8 * k + 2) 22 ∷ [])) h f l)
+  pub rate-done : (u v w : ℕ) → k ≡ rateAt xs → (length xs ≡ 0 → ⊥) → flag xs rateBit ≡ true → k + 3 ≤ length xs
+      → (u ≡ getD xs k 0) × (u < 256) → (v ≡ getD xs (k + 1) 0) × (v < 256) → (w ≡ getD xs (k + 2) 0) × (w < 256)
+      → answer 0 ((u % 64 * 2 ^ 16 + v * 256 + w) ∷ []) ≡ readRate xs
+  rate-done u v w q h f l i j m =
+      let e : u % 64 * 2 ^ 16 + v * 256 + w ≡ field xs (8 * k + 2) 22 = omega (arith, rate-of) in
+      rw (← q, e) (there 11 rateBit (k + 3) xs (answer 0 (field xs (8 * k + 2) 22 ∷ [])) h f l)
 
 -- a splice, by what the reader of its time answers: the bytes from its place on are as the code takes them
 module _ (xs : List ℕ) (k : ℕ) (q : k ≡ seamlessAt xs) (h : length xs ≡ 0 → ⊥) (f : flag xs seamlessBit ≡ true) (l : k + 5 ≤ length xs)
@@ -271,4 +254,4 @@ module _ (xs : List ℕ) (k : ℕ) (q : k ≡ seamlessAt xs) (h : length xs ≡ 
   pub splice-prefix : (x y : ℕ) → r ≡ TimestampRead.IncorrectPrefixBits x y → answer 11 [] ≡ readSplice xs
   splice-prefix x y e = absurd (omega (arith, long _ e))
 
-pub ruleset adaptation-laws = (byte-fits, end-fits, flag-clear, flag-on, last-off, last-on, flag-short, flag-done, empty, absent, short, short-at, unmeasured, cut-off, clock-read, clock-never, pcr-done, opcr-done, countdown-short, countdown-done, private-done, extension-empty, extension-done, extension-first, extension-next, extension-past, extension-small, no-part, private-part, extension-part, window-fits, window-not-valid, window-valid, byte-up, rate-upper, rate-fits, rate-done, splice-done, splice-marker, splice-short, splice-prefix, needs)
+pub ruleset adaptation-laws = (flag-clear, flag-on, last-off, last-on, flag-short, flag-done, empty, absent, short, short-at, unmeasured, cut-off, clock-read, clock-never, pcr-done, opcr-done, countdown-short, countdown-done, private-done, extension-empty, extension-done, extension-first, extension-next, extension-past, extension-small, no-part, private-part, extension-part, window-not-valid, window-valid, rate-done, splice-done, splice-marker, splice-short, splice-prefix, needs)

@@ -4,8 +4,11 @@ ghost use mathlib.Core.Path.{_≡_};
 ghost use Prim.Native.Nat.{_≤_, _<_};
 ghost use lib.ListN.{length};
 ghost use Rattle.adaptation.specs.Extension.{givenLtw, givenRate, givenSplice, readLtw, readRate, readSplice, rateAt, seamlessAt};
+use bits::wide;
 use timestamp::Timestamp;
 use timestamp::TimestampRead;
+
+const BIT_16: u64 = 1 << 16;
 
 // The legal time window offset; a field that is there may say that it is not valid.
 pub enum LtwRead {
@@ -49,7 +52,9 @@ pub fn ltw_offset(buf: &[u8]) -> LtwRead
     if buf[1] / 128 % 2 == 0 {
         return LtwRead::NotValid;
     }
-    LtwRead::Valid(buf[1] as u16 % 128 * 256 + buf[2] as u16)
+    let b1 = wide(buf[1]);
+    let b2 = wide(buf[2]);
+    LtwRead::Valid((b1 % 128 * 256 + b2) as u16)
 }
 
 fn piecewise_rate_offset(buf: &[u8]) -> usize
@@ -75,7 +80,10 @@ pub fn piecewise_rate(buf: &[u8]) -> RateRead
     if buf.len() < off + 3 {
         return RateRead::NotEnoughData;
     }
-    RateRead::Done(buf[off] as u32 % 64 * 65536 + buf[off + 1] as u32 * 256 + buf[off + 2] as u32)
+    let b0 = wide(buf[off]);
+    let b1 = wide(buf[off + 1]);
+    let b2 = wide(buf[off + 2]);
+    RateRead::Done((b0 % 64 * BIT_16 + b1 * 256 + b2) as u32)
 }
 
 fn seamless_splice_offset(buf: &[u8]) -> usize

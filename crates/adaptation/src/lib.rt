@@ -8,6 +8,7 @@ ghost use Rattle.adaptation.specs.Adaptation.{givenFlag, givenClock, giv
 ghost use Rattle.adaptation.specs.Adaptation.{readSpliceCountdown};
 ghost use Rattle.adaptation.specs.Adaptation.{readPrivateData, readExtension, opcrAt, spliceAt, privateAt, extensionAt, clockAt};
 use bits::part;
+use bits::wide;
 use control::ClockRef;
 
 pub mod extension;
@@ -175,7 +176,7 @@ pub fn transport_private_data_at(buf: &[u8]) -> PartRead
     if buf.len() <= off {
         return PartRead::NotEnoughData;
     }
-    let length = buf[off] as usize;
+    let length = wide(buf[off]) as usize;
     if buf.len() < off + 1 + length {
         return PartRead::NotEnoughData;
     }
@@ -207,7 +208,7 @@ fn adaptation_field_extension_offset(buf: &[u8]) -> usize
     if buf.len() <= off {
         return off + 1;
     }
-    off + 1 + buf[off] as usize
+    off + 1 + wide(buf[off]) as usize
 }
 
 // Where the extension lies, without its length byte.
@@ -224,7 +225,7 @@ pub fn adaptation_field_extension_at(buf: &[u8]) -> PartRead
     if buf.len() <= off {
         return PartRead::NotEnoughData;
     }
-    let length = buf[off] as usize;
+    let length = wide(buf[off]) as usize;
     if buf.len() < off + 1 + length {
         return PartRead::NotEnoughData;
     }

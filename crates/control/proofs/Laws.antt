@@ -1,4 +1,5 @@
--- What the definitions of `specs/` come to on the bytes, in each case. The functions' proofs cite these, and so do callers'.
+-- What the definitions of `specs/` come to on the bytes, in each case. The functions' proofs are `search control-laws`: each premise is a test
+-- or a promise that a need is handed, and the answer is as the code computes it. Callers' proofs cite them too.
 -- Assumes nothing.
 use mathlib.Core.Path.{_≡_, refl, sym, ap, ap₂, _∙_}
 use mathlib.Core.Bool.{true, false, not}
@@ -8,6 +9,7 @@ use Prim.Native.Nat.{ℕ, _+_, _*_, _/_, _%_, _^_, _≤_, _<_}
 use native.Mathlib.Omega.{arith}
 use lib.ListN.{length, getD}
 use lib.Dec.{eqb, ltb}
+use borrow.Author.Needs.{needs}
 use borrow.Author.Tests.{lt-ltb, le-ltb, eq-eqb, ne-eqb, eqb-true}
 use Rattle.bits.specs.Answer.{Answer, answer}
 use Rattle.bits.specs.Field.{bit, field}
@@ -36,15 +38,13 @@ module _ (b : ℕ) where
   unfolding isScrambled
   scrambled-is h = ap (λ (n : ℕ). not (eqb n 0)) (sym (scrambling-is h))
 
-  pub scheme-some : (v : ℕ) → (b < 256) × (v ≡ b / 64) × (v ≡ 0 → ⊥) → answer 0 (1 ∷ v ∷ []) ≡ readScheme b
+  pub scheme-none : b < 256 → b / 64 ≡ 0 → answer 0 (0 ∷ []) ≡ readScheme b
   unfolding readScheme
-  scheme-some v h =
-      let e : scrambling b ≡ v = scrambling-is (h .0) ∙ sym (h .1) in
-      simp (e, ne-eqb v 0 (h .2))
+  scheme-none h z = simp (eq-eqb (scrambling b) 0 (scrambling-is h ∙ z))
 
-  pub scheme-none : (b < 256) × (b / 64 ≡ 0) → answer 0 (0 ∷ []) ≡ readScheme b
+  pub scheme-some : b < 256 → (b / 64 ≡ 0 → ⊥) → answer 0 (1 ∷ (b / 64) ∷ []) ≡ readScheme b
   unfolding readScheme
-  scheme-none h = simp (eq-eqb (scrambling b) 0 (omega (arith, scrambling-is (h .0))))
+  scheme-some h z = simp (scrambling-is h, ne-eqb (b / 64) 0 z)
 
 pub follows-is : (a b : ℕ) → eqb ((b % 16 + 1) % 16) a ≡ follows a b
 unfolding follows
@@ -73,11 +73,14 @@ module _ (xs : List ℕ) where
   unfolding readClock
   clock-short h = simp (lt-ltb (length xs) 6 h)
 
-  pub clock-done : (b e : ℕ) → (6 ≤ length xs)
-      × (b ≡ (getD xs 0 0 % 256 * 2 ^ 25 + getD xs 1 0 % 256 * 2 ^ 17) + (getD xs 2 0 % 256 * 2 ^ 9 + (getD xs 3 0 % 256 * 2 + getD xs 4 0 / 128 % 2)))
-      × (e ≡ getD xs 4 0 % 2 * 256 + getD xs 5 0 % 256) → answer 0 (b ∷ e ∷ []) ≡ readClock xs
+  pub clock-done : (a b c d e f : ℕ) → 6 ≤ length xs → (a ≡ getD xs 0 0) × (a < 256) → (b ≡ getD xs 1 0) × (b < 256) → (c ≡ getD xs 2 0) × (c < 256)
+      → (d ≡ getD xs 3 0) × (d < 256) → (e ≡ getD xs 4 0) × (e < 256) → (f ≡ getD xs 5 0) × (f < 256)
+      → answer 0 ((a * 2 ^ 25 + b * 2 ^ 17 + c * 2 ^ 9 + d * 2 + e / 128) ∷ (e % 2 * 256 + f) ∷ []) ≡ readClock xs
   unfolding readClock
-  clock-done b e h = simp (le-ltb (length xs) 6 (h .0), h .1, h .2, base-of, extension-of)
+  clock-done a b c d e f h i j k l m n =
+      let p : a * 2 ^ 25 + b * 2 ^ 17 + c * 2 ^ 9 + d * 2 + e / 128 ≡ clockBase xs = sym (base-of ∙ omega arith) in
+      let q : e % 2 * 256 + f ≡ clockExtension xs = omega (arith, extension-of) in
+      simp (le-ltb (length xs) 6 h, p, q)
 
 -- six bytes hold a clock reference
 
@@ -153,13 +156,13 @@ pub counter-made : (v x : ℕ) → answer 0 (x ∷ []) ≡ makeCounter v → x �
 unfolding makeCounter
 counter-made v x p = limited-value (ltb v (2 ^ 4)) x v p
 
-pub pid-in : (n : ℕ) → n < 8192 → answer 0 (n ∷ []) ≡ makePid n
+pub pid-in : (n : ℕ) → n ≤ 0x1fff → answer 0 (n ∷ []) ≡ makePid n
 unfolding makePid
-pid-in n h = limited-in n (2 ^ 13) (n ∷ []) h
+pid-in n h = limited-in n (2 ^ 13) (n ∷ []) (omega arith)
 
-pub pid-out : (n : ℕ) → 8192 ≤ n → answer 14 [] ≡ makePid n
+pub pid-out : (n : ℕ) → 0x1fff < n → answer 14 [] ≡ makePid n
 unfolding makePid
-pid-out n h = limited-out n (2 ^ 13) (n ∷ []) h
+pid-out n h = limited-out n (2 ^ 13) (n ∷ []) (omega arith)
 
 module _ (a b : ClockRef) where
   -- of two clock references with one base the extensions decide
@@ -170,3 +173,5 @@ module _ (a b : ClockRef) where
   -- two that differ in their base are not the same; the answer of `&&` where its first half fails is that half
   pub other-base : (a .base ≡ b .base → ⊥) → (eqb (a .base) (b .base) ≡ true) ↔ (a ≡ b)
   other-base h = (λ t. absurd (h (eqb-true (a .base) (b .base) t)), λ e. absurd (h (ap (λ (c : ClockRef). c .base) e)))
+
+pub ruleset control-laws = (payload-bit, adaptation-bit, scrambled-is, scheme-none, scheme-some, follows-is, clock-short, clock-done, made, made-base-out, made-extension-out, number-in, number-base-out, number-extension-out, counter-is, pid-is, counter-in, counter-out, pid-in, pid-out, same-base, other-base, needs)

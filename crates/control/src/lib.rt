@@ -65,6 +65,12 @@ impl TransportScramblingControl {
     }
 }
 
+const BIT_9: u64 = 1 << 9;
+
+const BIT_17: u64 = 1 << 17;
+
+const BIT_25: u64 = 1 << 25;
+
 // A 27 MHz clock reading: PCR, OPCR and ESCR.
 pub struct ClockRef {
     base: u64,
@@ -101,7 +107,7 @@ impl ClockRef {
         let b4 = wide(buf[4]);
         let b5 = wide(buf[5]);
         ClockRead::Done(ClockRef {
-            base: b0 * 33554432 + b1 * 131072 + b2 * 512 + b3 * 2 + b4 / 128,
+            base: b0 * BIT_25 + b1 * BIT_17 + b2 * BIT_9 + b3 * 2 + b4 / 128,
             extension: (b4 % 2 * 256 + b5) as u16,
         })
     }
@@ -204,7 +210,7 @@ pub enum PidMade {
 impl Pid {
     pub const MAX_VALUE: u16 = 0x1fff;
 
-    pub const PID_COUNT: usize = 0x2000;
+    pub const PID_COUNT: usize = Pid::MAX_VALUE as usize + 1;
 
     pub fn new(pid: u16) -> PidMade
         ensures { λ r. ⌜ givenPid r ≡ makePid pid ⌝ }

@@ -6,6 +6,6 @@ pub adaptation-field-extension-at-spec : {M : Type 1} → statement M
 adaptation-field-extension-at-spec =
     tie.close
     (tie.spec (λ c. search adaptation-laws) (λ c. search adaptation-laws) (λ c. search adaptation-laws) (λ c κs. search adaptation-laws)
-    (λ c. search adaptation-laws) (λ c. search adaptation-laws) (λ c. search adaptation-laws) (λ c. search adaptation-laws)
+    (λ c. search adaptation-laws) (λ c. search adaptation-laws) (λ c κs. search adaptation-laws) (λ c. search adaptation-laws)
     (λ c. search adaptation-laws) (λ c. search adaptation-laws) (λ c. search adaptation-laws) (λ c. search adaptation-laws)
     (λ c. search adaptation-laws))

@@ -6,5 +6,5 @@ pub adaptation-field-extension-offset-spec : {M : Type 1} → statement M
 adaptation-field-extension-offset-spec =
     tie.close
     (tie.spec (λ c κs. search adaptation-laws) (λ c. search adaptation-laws) (λ c. search adaptation-laws) (λ c. search adaptation-laws)
-    (λ c. search adaptation-laws) (λ c. search adaptation-laws) (λ c. search adaptation-laws) (λ c. search adaptation-laws)
+    (λ c. search adaptation-laws) (λ c. search adaptation-laws) (λ c. search adaptation-laws) (λ c κs. search adaptation-laws)
     (λ c. search adaptation-laws) (λ c. search adaptation-laws))

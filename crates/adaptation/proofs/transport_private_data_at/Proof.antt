@@ -6,5 +6,5 @@ pub transport-private-data-at-spec : {M : Type 1} → statement M
 transport-private-data-at-spec =
     tie.close
     (tie.spec (λ c. search adaptation-laws) (λ c. search adaptation-laws) (λ c. search adaptation-laws) (λ c κs. search adaptation-laws)
-    (λ c. search adaptation-laws) (λ c. search adaptation-laws) (λ c. search adaptation-laws) (λ c. search adaptation-laws)
+    (λ c. search adaptation-laws) (λ c. search adaptation-laws) (λ c κs. search adaptation-laws) (λ c. search adaptation-laws)
     (λ c. search adaptation-laws) (λ c. search adaptation-laws) (λ c. search adaptation-laws) (λ c. search adaptation-laws))

@@ -6,6 +6,6 @@ pub ltw-offset-spec : {M : Type 1} → statement M
 ltw-offset-spec =
     tie.close
     (tie.spec (λ c. search adaptation-laws) (λ c. search adaptation-laws) (λ c. search adaptation-laws) (λ c. search adaptation-laws)
-    (λ c. search adaptation-laws) (λ c. search adaptation-laws) (λ c. search adaptation-laws) (λ c. search adaptation-laws)
-    (λ c. search adaptation-laws) (λ c. search adaptation-laws) (λ c. search adaptation-laws) (λ c. search adaptation-laws)
-    (λ c. search adaptation-laws))
+    (λ c. search adaptation-laws) (λ c. search adaptation-laws) (λ c. search adaptation-laws) (λ c κs. search adaptation-laws)
+    (λ c. search adaptation-laws) (λ c κs. search adaptation-laws) (λ c. search adaptation-laws) (λ c. search adaptation-laws)
+    (λ c. search adaptation-laws) (λ c. search adaptation-laws))

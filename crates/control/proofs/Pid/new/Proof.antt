@@ -1,13 +1,6 @@
-use native.Mathlib.Omega.{arith}
-use Rattle.control.proofs.Laws.{pid-in, pid-out}
+use Rattle.control.proofs.Laws.{control-laws}
 use Rattle.control.proofs.Pid.new.Statement.{statement}
 use Rattle.control.proofs.Pid.new.Tie as tie
 
-returns : tie.Need-returns
-returns c = pid-in _ (omega arith)
-
-returns-2 : tie.Need-returns-2
-returns-2 c = pid-out _ (omega arith)
-
 pub new-spec : {M : Type 1} → statement M
-new-spec = tie.close (tie.spec returns returns-2)
+new-spec = tie.close (tie.spec (λ c. search control-laws) (λ c. search control-laws))
