@@ -1,4 +1,5 @@
--- What the definitions of `specs/Stamp.antt` come to on the bytes, in each case. The functions' proofs cite these, and so do callers'.
+-- What the definitions of `specs/Stamp.antt` come to on the bytes, in each case. The functions' proofs are `search timestamp-laws`: each premise
+-- is a test or a promise that a need is handed, and the answer is as the code computes it. Callers' proofs cite them too.
 -- Assumes nothing.
 use mathlib.Core.Path.{_≡_, refl, sym, ap, _∙_}
 use mathlib.Core.Bool.{Bool, true, false}
@@ -7,12 +8,16 @@ use Prim.Native.Nat.{ℕ, _+_, _-_, _*_, _/_, _%_, _^_, _≤_, _<_}
 use native.Mathlib.Omega.{arith}
 use lib.ListN.{length, getD}
 use lib.Dec.{eqb, leb, ltb}
+use mir.Val.{Fits}
+use mir.Syntax.{w8}
+use borrow.Author.Needs.{needs}
 use borrow.Author.Tests.{lt-ltb, le-ltb, le-leb, lt-leb, eq-eqb, ne-eqb}
 use Rattle.bits.specs.Answer.{Answer, answer, pick}
 use Rattle.bits.specs.Field.{bit, field}
 use Rattle.bits.proofs.Fields.{field-split, in-byte}
 use Rattle.bits.proofs.Tests.{limited-in, limited-out, limited-value}
-use Rattle.timestamp.specs.Stamp.{stampValue, readStamp, readPrefixed, likelyWrapped, makeStamp}
+use Rattle.timestamp.specs.declared.TimestampRead.{TimestampRead}
+use Rattle.timestamp.specs.Stamp.{given, stampValue, readStamp, readPrefixed, likelyWrapped, makeStamp}
 
 -- the value, out of the five bytes
 pub value-of : (xs : List ℕ) → stampValue xs ≡ getD xs 0 0 / 2 % 8 * 2 ^ 30
@@ -31,45 +36,52 @@ value-of xs =
       in-byte xs 4 0 7 1 refl,
     )
 
--- reading, in each case. The answer stands on the left and the case is one premise, so a function's `returns` is `LAW _ (omega arith)`.
+-- reading with no look at the prefix, by the five bytes as `wide` gives them
 module _ (xs : List ℕ) where
   pub stamp-short : length xs < 5 → answer 1 [] ≡ readStamp xs
   unfolding readStamp
   stamp-short h = simp (lt-ltb (length xs) 5 h)
 
-  pub stamp-marker-7 : (5 ≤ length xs) × (getD xs 0 0 % 2 ≡ 0) → answer 12 (7 ∷ []) ≡ readStamp xs
-  unfolding readStamp bit
-  stamp-marker-7 h = simp (le-ltb (length xs) 5 (h .0), eq-eqb (bit xs 7) 0 (omega arith))
+  module _ (a : ℕ) (h : 5 ≤ length xs) (i : a ≡ getD xs 0 0) where
+    pub stamp-marker-7 : a % 2 ≡ 0 → answer 12 (7 ∷ []) ≡ readStamp xs
+    unfolding readStamp bit
+    stamp-marker-7 z = simp (le-ltb (length xs) 5 h, eq-eqb (bit xs 7) 0 (omega arith))
 
-  pub stamp-marker-23 : (5 ≤ length xs) × (0 < getD xs 0 0 % 2) × (getD xs 2 0 % 2 ≡ 0) → answer 12 (23 ∷ []) ≡ readStamp xs
-  unfolding readStamp bit
-  stamp-marker-23 h = simp (le-ltb (length xs) 5 (h .0), ne-eqb (bit xs 7) 0 (omega arith), eq-eqb (bit xs 23) 0 (omega arith))
+    module _ (p : a % 2 ≡ 0 → ⊥) (c : ℕ) (k : c ≡ getD xs 2 0) where
+      pub stamp-marker-23 : c % 2 ≡ 0 → answer 12 (23 ∷ []) ≡ readStamp xs
+      unfolding readStamp bit
+      stamp-marker-23 z = simp (le-ltb (length xs) 5 h, ne-eqb (bit xs 7) 0 (omega arith), eq-eqb (bit xs 23) 0 (omega arith))
 
-  pub stamp-marker-39 : (5 ≤ length xs) × (0 < getD xs 0 0 % 2) × (0 < getD xs 2 0 % 2) × (getD xs 4 0 % 2 ≡ 0) → answer 12 (39 ∷ []) ≡ readStamp xs
-  unfolding readStamp bit
-  stamp-marker-39 h =
-      simp (le-ltb (length xs) 5 (h .0), ne-eqb (bit xs 7) 0 (omega arith), ne-eqb (bit xs 23) 0 (omega arith), eq-eqb (bit xs 39) 0 (omega arith))
+      module _ (q : c % 2 ≡ 0 → ⊥) (e : ℕ) (m : e ≡ getD xs 4 0) where
+        pub stamp-marker-39 : e % 2 ≡ 0 → answer 12 (39 ∷ []) ≡ readStamp xs
+        unfolding readStamp bit
+        stamp-marker-39 z =
+            simp (le-ltb (length xs) 5 h, ne-eqb (bit xs 7) 0 (omega arith), ne-eqb (bit xs 23) 0 (omega arith), eq-eqb (bit xs 39) 0 (omega arith))
 
-  pub stamp-done : (v : ℕ) → (5 ≤ length xs) × (0 < getD xs 0 0 % 2) × (0 < getD xs 2 0 % 2) × (0 < getD xs 4 0 % 2)
-      × (v ≡ getD xs 0 0 / 2 % 8 * 2 ^ 30 + (getD xs 1 0 % 256 * 128 + getD xs 2 0 / 2 % 128) * 2 ^ 15 + (getD xs 3 0 % 256 * 128 + getD xs 4 0 / 2 % 128))
-      → answer 0 (v ∷ []) ≡ readStamp xs
-  unfolding readStamp bit
-  stamp-done v h =
-      simp (le-ltb (length xs) 5 (h .0), ne-eqb (bit xs 7) 0 (omega arith), ne-eqb (bit xs 23) 0 (omega arith), ne-eqb (bit xs 39) 0 (omega arith), h .4, value-of)
+        pub stamp-done : (b d : ℕ) → (e % 2 ≡ 0 → ⊥) → (b ≡ getD xs 1 0) × (b < 256) → c < 256 → (d ≡ getD xs 3 0) × (d < 256) → e < 256
+            → answer 0 ((a / 2 % 8 * 2 ^ 30 + b * 2 ^ 22 + c / 2 * 2 ^ 15 + d * 128 + e / 2) ∷ []) ≡ readStamp xs
+        unfolding readStamp bit
+        stamp-done b d r j k′ l m′ =
+            let v : a / 2 % 8 * 2 ^ 30 + b * 2 ^ 22 + c / 2 * 2 ^ 15 + d * 128 + e / 2 ≡ stampValue xs = sym (value-of xs ∙ omega arith) in
+            simp (le-ltb (length xs) 5 h, ne-eqb (bit xs 7) 0 (omega arith), ne-eqb (bit xs 23) 0 (omega arith), ne-eqb (bit xs 39) 0 (omega arith), v)
 
-  pub prefixed-short : (e : ℕ) → length xs < 5 → answer 1 [] ≡ readPrefixed e xs
+-- the same under a prefix. Each entry is a byte, as the borrow checker says it
+module _ (xs : List ℕ) (e : ℕ) where
+  pub prefixed-short : length xs < 5 → answer 1 [] ≡ readPrefixed e xs
   unfolding readPrefixed
-  prefixed-short e h = simp (lt-ltb (length xs) 5 h)
+  prefixed-short h = simp (lt-ltb (length xs) 5 h)
 
-  pub prefixed-same : (e : ℕ) → (5 ≤ length xs) × (getD xs 0 0 / 16 % 16 ≡ e) → readStamp xs ≡ readPrefixed e xs
-  unfolding readPrefixed
-  prefixed-same e h = simp (le-ltb (length xs) 5 (h .0), eq-eqb (field xs 0 4) e (in-byte xs 0 0 4 4 refl ∙ h .1))
+  module _ (h : 5 ≤ length xs) (k : (i : ℕ) → Fits w8 (getD xs i 0)) where
+    prefix-of : field xs 0 4 ≡ getD xs 0 0 / 16
+    prefix-of = omega (arith, in-byte xs 0 0 4 4 refl, k 0)
 
-  pub prefixed-other : (e a : ℕ) → (5 ≤ length xs) × (a ≡ getD xs 0 0 / 16 % 16) × (a ≡ e → ⊥) → answer 13 (e ∷ a ∷ []) ≡ readPrefixed e xs
-  unfolding readPrefixed
-  prefixed-other e a h =
-      let f : field xs 0 4 ≡ a = in-byte xs 0 0 4 4 refl ∙ sym (h .1) in
-      simp (le-ltb (length xs) 5 (h .0), f, ne-eqb a e (h .2))
+    pub prefixed-same : (r : TimestampRead) → getD xs 0 0 / 16 ≡ e → given r ≡ readStamp xs → given r ≡ readPrefixed e xs
+    unfolding readPrefixed
+    prefixed-same r p g = g ∙ simp (le-ltb (length xs) 5 h, eq-eqb (field xs 0 4) e (prefix-of ∙ p))
+
+    pub prefixed-other : (getD xs 0 0 / 16 ≡ e → ⊥) → answer 13 (e ∷ (getD xs 0 0 / 16) ∷ []) ≡ readPrefixed e xs
+    unfolding readPrefixed
+    prefixed-other p = simp (le-ltb (length xs) 5 h, prefix-of, ne-eqb (getD xs 0 0 / 16) e p)
 
 module _ (v : ℕ) where
   pub made : v < 2 ^ 34 → answer 0 (v ∷ []) ≡ makeStamp v
@@ -109,3 +121,5 @@ unfolding readStamp
 stamp-long xs n vs e h =
     ap (λ (a : Answer). a .number % 12) e
     ∙ rw (le-ltb (length xs) 5 h) (marker (eqb (bit xs 7) 0) (eqb (bit xs 23) 0) (eqb (bit xs 39) 0) (stampValue xs))
+
+pub ruleset timestamp-laws = (stamp-short, stamp-marker-7, stamp-marker-23, stamp-marker-39, stamp-done, prefixed-short, prefixed-same, prefixed-other, made, not-made, wrapped-le, wrapped-gt, needs)

@@ -3,6 +3,12 @@ ghost use mathlib.Core.Path.{_≡_};
 ghost use Rattle.timestamp.specs.Stamp.{given, givenMade, makeStamp, readStamp, readPrefixed, ptsPrefix, dtsPrefix, likelyWrapped};
 use bits::wide;
 
+const BIT_15: u64 = 1 << 15;
+
+const BIT_22: u64 = 1 << 22;
+
+const BIT_30: u64 = 1 << 30;
+
 pub struct Timestamp {
     val: u64,
 }
@@ -32,14 +38,14 @@ impl Timestamp {
     pub fn from_pts_bytes(buf: &[u8]) -> TimestampRead
         ensures { λ r. ⌜ given r ≡ readPrefixed ptsPrefix (now (buf .entry)) ⌝ }
     {
-        Timestamp::from_prefixed(buf, 2)
+        Timestamp::from_prefixed(buf, 0b0010)
     }
 
     // The timestamp in the first 5 bytes, under the prefix of a DTS.
     pub fn from_dts_bytes(buf: &[u8]) -> TimestampRead
         ensures { λ r. ⌜ given r ≡ readPrefixed dtsPrefix (now (buf .entry)) ⌝ }
     {
-        Timestamp::from_prefixed(buf, 1)
+        Timestamp::from_prefixed(buf, 0b0001)
     }
 
     // The length is tested before the prefix, so that 1 comes before 13.
@@ -79,7 +85,7 @@ impl Timestamp {
             return TimestampRead::MarkerBitNotSet { bit_number: 39 };
         }
         TimestampRead::Done(Timestamp {
-            val: b0 / 2 % 8 * 1073741824 + b1 * 4194304 + b2 / 2 * 32768 + b3 * 128 + b4 / 2,
+            val: b0 / 2 % 8 * BIT_30 + b1 * BIT_22 + b2 / 2 * BIT_15 + b3 * 128 + b4 / 2,
         })
     }
 

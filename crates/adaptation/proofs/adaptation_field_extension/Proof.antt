@@ -3,7 +3,8 @@ use Rattle.adaptation.proofs.adaptation_field_extension.Statement.{stat
 use Rattle.adaptation.proofs.adaptation_field_extension.Tie as tie
 
 pub adaptation-field-extension-spec : {M : Type 1} → statement M
-adaptation-field-extension-spec =
-    tie.close
-    (tie.spec (λ c κs. search adaptation-laws) (λ c. search adaptation-laws) (λ c. search adaptation-laws) (λ c. search adaptation-laws)
-    (λ c. search adaptation-laws) (λ c. search adaptation-laws) (λ c κs. search adaptation-laws) (λ c. search adaptation-laws))
+adaptation-field-extension-spec {M} =
+    let answers = tie.spec {M = M} (λ c κs. search adaptation-laws) (λ c. search adaptation-laws) (λ c. search adaptation-laws)
+    (λ c. search adaptation-laws) (λ c. search adaptation-laws) (λ c. search adaptation-laws) (λ c κs. search adaptation-laws)
+    (λ c. search adaptation-laws) in
+    tie.close answers

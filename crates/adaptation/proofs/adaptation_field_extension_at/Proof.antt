@@ -3,9 +3,9 @@ use Rattle.adaptation.proofs.adaptation_field_extension_at.Statement.{s
 use Rattle.adaptation.proofs.adaptation_field_extension_at.Tie as tie
 
 pub adaptation-field-extension-at-spec : {M : Type 1} → statement M
-adaptation-field-extension-at-spec =
-    tie.close
-    (tie.spec (λ c. search adaptation-laws) (λ c. search adaptation-laws) (λ c. search adaptation-laws) (λ c κs. search adaptation-laws)
-    (λ c. search adaptation-laws) (λ c. search adaptation-laws) (λ c κs. search adaptation-laws) (λ c. search adaptation-laws)
+adaptation-field-extension-at-spec {M} =
+    let answers = tie.spec {M = M} (λ c. search adaptation-laws) (λ c. search adaptation-laws) (λ c. search adaptation-laws)
+    (λ c κs. search adaptation-laws) (λ c. search adaptation-laws) (λ c. search adaptation-laws) (λ c κs. search adaptation-laws)
     (λ c. search adaptation-laws) (λ c. search adaptation-laws) (λ c. search adaptation-laws) (λ c. search adaptation-laws)
-    (λ c. search adaptation-laws))
+    (λ c. search adaptation-laws) (λ c. search adaptation-laws) in
+    tie.close answers

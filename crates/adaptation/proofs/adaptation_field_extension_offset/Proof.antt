@@ -3,8 +3,8 @@ use Rattle.adaptation.proofs.adaptation_field_extension_offset.Statemen
 use Rattle.adaptation.proofs.adaptation_field_extension_offset.Tie as tie
 
 pub adaptation-field-extension-offset-spec : {M : Type 1} → statement M
-adaptation-field-extension-offset-spec =
-    tie.close
-    (tie.spec (λ c κs. search adaptation-laws) (λ c. search adaptation-laws) (λ c. search adaptation-laws) (λ c. search adaptation-laws)
-    (λ c. search adaptation-laws) (λ c. search adaptation-laws) (λ c. search adaptation-laws) (λ c κs. search adaptation-laws)
-    (λ c. search adaptation-laws) (λ c. search adaptation-laws))
+adaptation-field-extension-offset-spec {M} =
+    let answers = tie.spec {M = M} (λ c κs. search adaptation-laws) (λ c. search adaptation-laws) (λ c. search adaptation-laws)
+    (λ c. search adaptation-laws) (λ c. search adaptation-laws) (λ c. search adaptation-laws) (λ c. search adaptation-laws)
+    (λ c κs. search adaptation-laws) (λ c. search adaptation-laws) (λ c. search adaptation-laws) in
+    tie.close answers

@@ -3,7 +3,8 @@ use Rattle.adaptation.proofs.transport_private_data.Statement.{statemen
 use Rattle.adaptation.proofs.transport_private_data.Tie as tie
 
 pub transport-private-data-spec : {M : Type 1} → statement M
-transport-private-data-spec =
-    tie.close
-    (tie.spec (λ c κs. search adaptation-laws) (λ c. search adaptation-laws) (λ c. search adaptation-laws) (λ c. search adaptation-laws)
-    (λ c. search adaptation-laws) (λ c. search adaptation-laws) (λ c κs. search adaptation-laws) (λ c. search adaptation-laws))
+transport-private-data-spec {M} =
+    let answers = tie.spec {M = M} (λ c κs. search adaptation-laws) (λ c. search adaptation-laws) (λ c. search adaptation-laws)
+    (λ c. search adaptation-laws) (λ c. search adaptation-laws) (λ c. search adaptation-laws) (λ c κs. search adaptation-laws)
+    (λ c. search adaptation-laws) in
+    tie.close answers

@@ -3,8 +3,9 @@ use Rattle.adaptation.proofs.transport_private_data_at.Statement.{state
 use Rattle.adaptation.proofs.transport_private_data_at.Tie as tie
 
 pub transport-private-data-at-spec : {M : Type 1} → statement M
-transport-private-data-at-spec =
-    tie.close
-    (tie.spec (λ c. search adaptation-laws) (λ c. search adaptation-laws) (λ c. search adaptation-laws) (λ c κs. search adaptation-laws)
-    (λ c. search adaptation-laws) (λ c. search adaptation-laws) (λ c κs. search adaptation-laws) (λ c. search adaptation-laws)
-    (λ c. search adaptation-laws) (λ c. search adaptation-laws) (λ c. search adaptation-laws) (λ c. search adaptation-laws))
+transport-private-data-at-spec {M} =
+    let answers = tie.spec {M = M} (λ c. search adaptation-laws) (λ c. search adaptation-laws) (λ c. search adaptation-laws)
+    (λ c κs. search adaptation-laws) (λ c. search adaptation-laws) (λ c. search adaptation-laws) (λ c κs. search adaptation-laws)
+    (λ c. search adaptation-laws) (λ c. search adaptation-laws) (λ c. search adaptation-laws) (λ c. search adaptation-laws)
+    (λ c. search adaptation-laws) in
+    tie.close answers

@@ -6,5 +6,6 @@ use Rattle.adaptation.proofs.extension.seamless_splice_offset.Tie as ti
 
 pub seamless-splice-offset-spec : {M : Type 1} → statement M
 unfolding bit seamlessAt
-seamless-splice-offset-spec =
-    tie.close (tie.spec (λ c κs. search needs) (λ c. search needs) (λ c. search needs) (λ c. search needs) (λ c. search needs))
+seamless-splice-offset-spec {M} =
+    let answers = tie.spec {M = M} (λ c κs. search needs) (λ c. search needs) (λ c. search needs) (λ c. search needs) (λ c. search needs) in
+    tie.close answers

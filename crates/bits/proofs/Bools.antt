@@ -1,0 +1,38 @@
+-- Truth values: tests joined by `pick`, as definitions write 'and', 'and not' and 'not', and tests given as numbers.
+-- Assumes nothing.
+use mathlib.Core.Path.{_≡_, refl, sym}
+use mathlib.Core.Bool.{Bool, true, false}
+use Prim.Native.Nat.{ℕ}
+use native.Mathlib.Omega.{arith}
+use Rattle.bits.specs.Answer.{pick, truth}
+
+pub false-true : {A : Type 0} → false ≡ true → A
+false-true e = let z : _≡_ {A = ℕ} 0 1 = cc in absurd (omega arith)
+
+-- a and b
+pub both : (a b : Bool) → pick a b false ≡ true → (a ≡ true) × (b ≡ true)
+both true b e = (refl, e)
+both false b e = false-true e
+
+-- b and not a
+pub and-not : (a b : Bool) → pick a false b ≡ true → (a ≡ false) × (b ≡ true)
+and-not true b e = false-true e
+and-not false b e = (refl, e)
+
+-- not a
+pub not-not : (a : Bool) → pick a false true ≡ false → a ≡ true
+not-not true e = refl
+not-not false e = false-true (sym e)
+
+pub pick-same : {A : Type 0} (t : Bool) (a : A) → pick t a a ≡ a
+pick-same true a = refl
+pick-same false a = refl
+
+-- a test given as 1 or 0
+pub is-true : (t : Bool) → 1 ≡ truth t → t ≡ true
+is-true true e = refl
+is-true false e = absurd (omega arith)
+
+pub is-false : (t : Bool) → 0 ≡ truth t → t ≡ false
+is-false true e = absurd (omega arith)
+is-false false e = refl
