@@ -174,4 +174,4 @@ module _ (a b : ClockRef) where
   pub other-base : (a .base ≡ b .base → ⊥) → (eqb (a .base) (b .base) ≡ true) ↔ (a ≡ b)
   other-base h = (λ t. absurd (h (eqb-true (a .base) (b .base) t)), λ e. absurd (h (ap (λ (c : ClockRef). c .base) e)))
 
-pub ruleset control-laws = (payload-bit, adaptation-bit, scrambled-is, scheme-none, scheme-some, follows-is, clock-short, clock-done, made, made-base-out, made-extension-out, number-in, number-base-out, number-extension-out, counter-is, pid-is, counter-in, counter-out, pid-in, pid-out, same-base, other-base, needs)
+pub ruleset control-laws = (payload-bit, adaptation-bit, scrambled-is, scheme-none, scheme-some, follows-is, clock-short, clock-done, number-in, number-base-out, number-extension-out, counter-is, pid-is, same-base, other-base, needs)

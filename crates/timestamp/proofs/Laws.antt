@@ -122,4 +122,4 @@ stamp-long xs n vs e h =
     ap (λ (a : Answer). a .number % 12) e
     ∙ rw (le-ltb (length xs) 5 h) (marker (eqb (bit xs 7) 0) (eqb (bit xs 23) 0) (eqb (bit xs 39) 0) (stampValue xs))
 
-pub ruleset timestamp-laws = (stamp-short, stamp-marker-7, stamp-marker-23, stamp-marker-39, stamp-done, prefixed-short, prefixed-same, prefixed-other, made, not-made, wrapped-le, wrapped-gt, needs)
+pub ruleset timestamp-laws = (stamp-short, stamp-marker-7, stamp-marker-23, stamp-marker-39, stamp-done, prefixed-short, prefixed-same, prefixed-other, wrapped-le, wrapped-gt, needs)
