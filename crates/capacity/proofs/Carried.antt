@@ -17,7 +17,7 @@ use Rattle.machine.specs.declared.Phase.{Phase}
 use Rattle.machine.specs.declared.Phase.the-variants.{Begin, Started, IgnoreRest}
 use Rattle.machine.specs.declared.Last.{Last}
 use Rattle.machine.specs.declared.Last.the-variants.{Nothing, At}
-use Rattle.machine.specs.Events.{State, state, headAccepted, held, continuous, opened, begun, continued, eventsOf, phaseAfter, next, run}
+use Rattle.machine.specs.Events.{asCounter, State, state, headAccepted, held, continuous, opened, begun, continued, eventsOf, phaseAfter, next, run}
 use Rattle.gather.specs.Belongs.{eventBytes}
 use Rattle.writer.specs.Packets.{carrier, carried}
 use Rattle.machine.specs.Run.{IsPacket}
@@ -32,7 +32,7 @@ use Rattle.capacity.proofs.Carrier.{is-packet}
 continuous-made : (c : ℕ) (l : Last) (p : List ℕ) → Before c l → payloadFlag p ≡ true → counterField p ≡ c → continuous l p ≡ true
 unfolding continuous follows
 continuous-made c Nothing p h f e = refl
-continuous-made c (At l) p h f e = rw f (eq-eqb ((l + 1) % 16) (counterField p) (h ∙ sym e))
+continuous-made c (At l) p h f e = rw f (eq-eqb ((l .val + 1) % 16) (counterField p) (h ∙ sym e))
 
 module _ (id c : ℕ) (xs : List ℕ) (fits : c ≤ 15) (low : 1 ≤ length xs) (high : length xs ≤ 184) where
   held-made : (start k i : ℕ) → held k i (carrier start id c xs) ≡ endOf k i (length xs)
@@ -51,7 +51,7 @@ module _ (id c : ℕ) (xs : List ℕ) (fits : c ≤ 15) (low : 1 ≤ length xs) 
         payload-back 0 id c xs high low,
       ) (ap (λ (e : Event). e ∷ []) (held-made 0 continuePacket i))
 
-  next-later : (l : Last) → Before c l → next (state Started l) (carrier 0 id c xs) ≡ state Started (At c)
+  next-later : (l : Last) → Before c l → next (state Started l) (carrier 0 id c xs) ≡ state Started (At (asCounter c))
   unfolding next phaseAfter
   next-later l h =
       simp (
@@ -73,7 +73,7 @@ module _ (id c : ℕ) (xs : List ℕ) (fits : c ≤ 15) (low : 1 ≤ length xs) 
         a,
       ) (ap (λ (e : Event). opened (s .phase) i ++ (e ∷ [])) (held-made 1 beginPacket i))
 
-  next-first : (s : State) → next s (carrier 1 id c xs) ≡ state Started (At c)
+  next-first : (s : State) → next s (carrier 1 id c xs) ≡ state Started (At (asCounter c))
   unfolding next phaseAfter
   next-first s = simp (start-back 1 id c xs true refl, counter-back 1 id c xs fits)
 
@@ -97,7 +97,7 @@ run-later (suc k) id c i xs l h f t =
     let q = chunk-length k xs t in
     rw (step-later id c (take 184 xs) h (q .0) (q .1) i l f, next-later id c (take 184 xs) h (q .0) (q .1) l f)
     (ap₂ (λ (m : ℕ) (es : List Event). endOf continuePacket i m ∷ es) (length-take 184 xs)
-    (run-later k id ((c + 1) % 16) (suc i) (drop 184 xs) (At c) (omega arith) refl (takes-rest k xs t)
+    (run-later k id ((c + 1) % 16) (suc i) (drop 184 xs) (At (asCounter c)) (omega arith) refl (takes-rest k xs t)
     ∙ ap (continuesOf (suc i) k) (length-drop 184 xs)))
 
 -- the bytes of a packet in a list, by its event
@@ -185,7 +185,7 @@ module _ (k id c : ℕ) (xs : List ℕ) (takes : Takes (suc k) xs) where
       rw (
         step-first id c (take 184 xs) fits (q .0) (q .1) 0 s before headed,
         next-first id c (take 184 xs) fits (q .0) (q .1) s,
-        run-later k id ((c + 1) % 16) 1 (drop 184 xs) (At c) (omega arith) refl (takes-rest k xs takes),
+        run-later k id ((c + 1) % 16) 1 (drop 184 xs) (At (asCounter c)) (omega arith) refl (takes-rest k xs takes),
         append-assoc,
         length-take 184 xs,
         length-drop 184 xs,

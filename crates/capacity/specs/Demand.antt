@@ -62,7 +62,7 @@ outputPackets r u payload out = packetsOf (outputBytes r u payload out)
 -- no last counter, or the one before the first: any phase
 abbrev pub Before : ℕ → Last → Type 0
 Before c Nothing = 0 ≤ 0
-Before c (At l) = (l + 1) % 16 ≡ c
+Before c (At l) = (l .val + 1) % 16 ≡ c
 
 abbrev pub Ready : Route → State → Type 0
 Ready r s = Before (r .counter) (s .last)

@@ -41,7 +41,7 @@ fn phase(p: Phase) {
 fn last(l: Last) {
     match l {
         Last::Nothing => show::number(255),
-        Last::At(counter) => show::number(wide(counter)),
+        Last::At(counter) => show::number(wide(counter.count())),
     }
 }
 
@@ -116,29 +116,29 @@ fn cut_short(stream: &[u8]) {
     all(b"run_lent no_sync", Machine::new(), &bytes);
 }
 
-// A state that cannot be: no packet has such a counter, and no entry begins at a place of 3.
-fn counter_16(place: usize) -> Machine {
+// A state that is refused: no entry begins at a place of 3.
+fn between_entries() -> Machine {
     Machine {
         phase: Phase::Started,
-        last: Last::At(16),
+        last: Last::Nothing,
         taken: 7,
-        place,
+        place: 3,
     }
 }
 
 pub fn run(stream: &[u8]) {
     steps(b"step_lent", Machine::new(), stream);
-    steps(b"step_lent counter_16", counter_16(8), stream);
+    steps(b"step_lent between_entries", between_entries(), stream);
     all(b"run_lent", Machine::new(), packets::three(stream));
     cut_short(stream);
     all(
-        b"run_lent counter_16 187_bytes",
-        counter_16(3),
+        b"run_lent between_entries 187_bytes",
+        between_entries(),
         part(stream, 0, 187),
     );
     all(
-        b"run_lent counter_16 no_bytes",
-        counter_16(3),
+        b"run_lent between_entries no_bytes",
+        between_entries(),
         part(stream, 0, 0),
     );
 }

@@ -9,6 +9,9 @@ use lib.ListN.{getD}
 use lib.Dec.{eqb, ltb}
 use borrow.Author.Tests.{lt-ltb, le-ltb, eq-eqb, ne-eqb, ltb-false}
 use Rattle.bits.specs.Answer.{pick}
+use Rattle.control.specs.declared.ContinuityCounter.{ContinuityCounter}
+use Rattle.control.specs.Control.{counterOf}
+use Rattle.control.proofs.Laws.{counter-is}
 use Rattle.machine.specs.declared.Phase.{Phase}
 use Rattle.machine.specs.declared.Phase.the-variants.{Begin, Started, IgnoreRest}
 use Rattle.machine.specs.declared.Last.{Last}
@@ -16,6 +19,7 @@ use Rattle.machine.specs.declared.Last.the-variants.{Nothing, At}
 use Rattle.machine.specs.declared.Machine.{Machine}
 use Rattle.machine.specs.declared.row.RowRead.{RowRead}
 use Rattle.machine.specs.declared.row.RowRead.the-variants.{Is, Stray}
+use Rattle.machine.specs.Events.{asCounter}
 use Rattle.machine.specs.Step.{wrongLast}
 use Rattle.machine.specs.Row.{phaseOf, lastOf, phaseNumber, lastNumber, strays, machineOf, rowOf}
 use Rattle.machine.proofs.Laws.{never}
@@ -43,10 +47,12 @@ module _ (xs : List ℕ) where
         stray-last h = simp (le-ltb 2 (getD xs 0 0) h₁, le-ltb 4294967295 (getD xs 2 0) h₂, ne-eqb (getD xs 1 0) 255 h₃, lt-ltb 15 (getD xs 1 0) h)
 
         -- a counter
-        pub row-next : (ph : Phase) → getD xs 1 0 ≤ 15 → ph ≡ phaseOf (getD xs 0 0)
-            → Is (record { phase = ph; last = At (getD xs 1 0); taken = getD xs 2 0; place = getD xs 3 0 }) ≡ machineOf xs
+        pub row-next : (ph : Phase) (c : ContinuityCounter) → getD xs 1 0 ≤ 15 → ph ≡ phaseOf (getD xs 0 0) → c .val ≡ counterOf (getD xs 1 0)
+            → Is (record { phase = ph; last = At c; taken = getD xs 2 0; place = getD xs 3 0 }) ≡ machineOf xs
         unfolding machineOf strays
-        row-next ph h e = simp (le-ltb 2 (getD xs 0 0) h₁, le-ltb 4294967295 (getD xs 2 0) h₂, ne-eqb (getD xs 1 0) 255 h₃, le-ltb 15 (getD xs 1 0) h, e)
+        row-next ph c h e f =
+            let g : c ≡ asCounter (getD xs 1 0) = ap asCounter (omega (arith, counter-is (getD xs 1 0))) in
+            simp (le-ltb 2 (getD xs 0 0) h₁, le-ltb 4294967295 (getD xs 2 0) h₂, ne-eqb (getD xs 1 0) 255 h₃, le-ltb 15 (getD xs 1 0) h, e, g)
 
 pub row-is : (m : Machine) (a b : ℕ) → a ≡ phaseNumber (m .phase) → b ≡ lastNumber (m .last) → a ∷ b ∷ m .taken ∷ m .place ∷ [] ≡ rowOf m
 unfolding rowOf
@@ -65,7 +71,7 @@ row-back m h k = phases (m .phase) (m .last) h (le-ltb 4294967295 (m .taken) k)
         ≡ Is (record { phase = ph; last = l; taken = m .taken; place = m .place })
     lasts ph Nothing h t q e = simp (t, q, e)
     lasts ph (At c) h t q e =
-        let n : eqb c 255 ≡ false = ne-eqb c 255 (λ z. let w = ltb-false 15 c h in omega arith) in
+        let n : eqb (c .val) 255 ≡ false = ne-eqb (c .val) 255 (λ z. let w = ltb-false 15 (c .val) h in omega arith) in
         simp (t, q, e, h, n)
 
     phases : (ph : Phase) (l : Last) → wrongLast l ≡ false → ltb 4294967295 (m .taken) ≡ false

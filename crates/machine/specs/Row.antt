@@ -14,6 +14,7 @@ use Rattle.machine.specs.declared.Last.the-variants.{Nothing, At}
 use Rattle.machine.specs.declared.Machine.{Machine}
 use Rattle.machine.specs.declared.row.RowRead.{RowRead}
 use Rattle.machine.specs.declared.row.RowRead.the-variants.{Is, Stray}
+use Rattle.machine.specs.Events.{asCounter}
 use Rattle.machine.specs.Step.{judged, stepOf, logOf}
 use Rattle.machine.specs.Run.{runJudged, reportOf, ranLog}
 
@@ -23,7 +24,7 @@ abbrev pub phaseOf : ℕ → Phase
 phaseOf n = pick (eqb n 0) Begin (pick (eqb n 1) Started IgnoreRest)
 
 abbrev pub lastOf : ℕ → Last
-lastOf n = pick (eqb n 255) Nothing (At n)
+lastOf n = pick (eqb n 255) Nothing (At (asCounter n))
 
 abbrev pub phaseNumber : Phase → ℕ
 phaseNumber Begin = 0
@@ -32,7 +33,7 @@ phaseNumber IgnoreRest = 2
 
 abbrev pub lastNumber : Last → ℕ
 lastNumber Nothing = 255
-lastNumber (At c) = c
+lastNumber (At c) = c .val
 
 -- ---- the row
 

@@ -6,6 +6,7 @@ use crate::Last;
 use crate::Machine;
 use crate::Phase;
 use bits::wide;
+use control::ContinuityCounter;
 
 // The machine that a row stands for, if for one.
 pub enum RowRead {
@@ -38,7 +39,7 @@ fn last_number(l: Last) -> u64
 {
     match l {
         Last::Nothing => 255,
-        Last::At(c) => wide(c),
+        Last::At(c) => wide(c.count()),
     }
 }
 
@@ -69,7 +70,7 @@ pub fn read(row: &[u64; 4]) -> RowRead
     }
     RowRead::Is(Machine {
         phase: ph,
-        last: Last::At(last as u8),
+        last: Last::At(ContinuityCounter::from_byte_four(last as u8)),
         taken: taken as u32,
         place: place as usize,
     })
