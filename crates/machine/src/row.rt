@@ -20,6 +20,7 @@ fn phase_of(n: u64) -> Phase
     match n {
         0 => Phase::Begin,
         1 => Phase::Started,
+        // 2: a row with a larger one is Stray
         _ => Phase::IgnoreRest,
     }
 }
