@@ -11,7 +11,11 @@ ghost use Rattle.gather.specs.Belongs.{ownPlace, ownBytes};
 ghost use Rattle.gather.specs.Gather.{gathering, fresh, eventGood, inPacket, stateGood, Possible, moved};
 ghost use Rattle.gather.specs.Gather.{outcome, given, gatherOf, storeOf, readOf, givenHeld, bytesOf};
 use bits::part;
+use log::BEGIN_PACKET;
+use log::CONTINUE_PACKET;
+use log::CONTINUITY_ERROR;
 use log::Event;
+use log::START_STREAM;
 use pes_header::PayloadRead;
 
 pub mod row;
@@ -62,15 +66,6 @@ impl Gathering {
         }
     }
 }
-
-// The kinds of events that are told apart.
-const START_STREAM: u8 = 1;
-
-const BEGIN_PACKET: u8 = 2;
-
-const CONTINUE_PACKET: u8 = 3;
-
-const CONTINUITY_ERROR: u8 = 5;
 
 // ---- which bytes belong to a unit
 

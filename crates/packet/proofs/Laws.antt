@@ -14,7 +14,7 @@ use mathlib.Core.Logic.{_⊎_, ⊎-elim}
 use types.Run.{OneOf}
 use denote.Enum.Declared.{tagOf}
 use Rattle.bits.specs.Answer.{Answer, answer, pick, truth, unless, Within, partAt, partOf}
-use Rattle.bits.specs.Field.{bit}
+use Rattle.bits.specs.Field.{bit, flag}
 use Rattle.bits.proofs.Checks.{unless-within, other-false}
 use Rattle.bits.proofs.Fields.{flag-clear, flag-set, bitOf, in-byte, field-split, byte-field, Known, byte-wide}
 use Rattle.bits.proofs.Parts.{part-refused, part-done}
@@ -53,7 +53,12 @@ module _ (xs : List ℕ) where
         in-byte xs 2 0 8 0 refl,
       )
 
-  counter-is : counterOf (getD xs 3 0) ≡ counterField xs
+  -- of a start flag, as a caller reads it
+  pub start-bit : eqb (getD xs 1 0 / 64 % 2) 1 ≡ flag xs 9
+  unfolding bit
+  start-bit = refl
+
+  pub counter-is : counterOf (getD xs 3 0) ≡ counterField xs
   unfolding counterOf counterField
   counter-is = omega (arith, in-byte (getD xs 3 0 ∷ []) 0 4 4 0 refl, in-byte xs 3 4 4 0 refl)
 
