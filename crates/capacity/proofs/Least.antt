@@ -1,7 +1,7 @@
 -- No run with fewer packets gives a unit: a packet carries at most 184 bytes of it, and the first carries its header.
 -- Assumes nothing.
 use mathlib.Core.Path.{_≡_, refl, sym, ap, _∙_}
-use mathlib.Core.Bool.{Bool, true, false}
+use mathlib.Core.Bool.{Bool, true, false, not}
 use mathlib.Core.List.{List, [], _∷_, _++_}
 use Prim.Native.Nat.{ℕ, suc, _+_, _-_, _*_, _≤_}
 use native.Mathlib.Omega.{arith}
@@ -176,7 +176,7 @@ module _ (c : List ℕ) (h : Accepted c) where
   unfolding flagged
   flag-on i a e = eqb-true (bit c i) 1 (go (flag c i) (ap number-of (sym (h .is _)) ∙ e))
     where
-      go : (b : Bool) → pick b a (answer 9 []) .number ≡ 0 → b ≡ true
+      go : (b : Bool) → pick (not b) (answer 9 []) a .number ≡ 0 → b ≡ true
       go true z = refl
       go false z = absurd (omega arith)
 

@@ -2,6 +2,7 @@ use Rattle.contents.proofs.Laws.{contents-laws}
 use Rattle.contents.proofs.escr_of.Statement.{statement}
 use Rattle.contents.proofs.escr_of.Tie as tie
 
+-- 33 and 9 bits are always a clock reference: `OutOfRange` does not arise
 pub escr-of-spec : {M : Type 1} → statement M
 escr-of-spec =
     tie.close

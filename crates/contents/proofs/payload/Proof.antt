@@ -2,6 +2,7 @@ use Rattle.contents.proofs.Laws.{contents-laws}
 use Rattle.contents.proofs.payload.Statement.{statement}
 use Rattle.contents.proofs.payload.Tie as tie
 
+-- the part that `payload_at` names lies within the contents, so that `part` gives it whole
 pub payload-spec : {M : Type 1} → statement M
 payload-spec =
     tie.close

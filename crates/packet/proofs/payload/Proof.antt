@@ -2,6 +2,7 @@ use Rattle.packet.proofs.Laws.{packet-laws}
 use Rattle.packet.proofs.payload.Statement.{statement}
 use Rattle.packet.proofs.payload.Tie as tie
 
+-- the part that `payload_at` names lies within the packet, so that `part` gives it whole
 pub payload-spec : {M : Type 1} → statement M
 payload-spec =
     tie.close
