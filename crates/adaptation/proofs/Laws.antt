@@ -2,7 +2,7 @@
 -- test or a promise that a need is handed, and the answer is as the code computes it.
 -- Assumes nothing.
 use mathlib.Core.Path.{_≡_, refl, sym, ap, _∙_}
-use mathlib.Core.Bool.{Bool, true, false}
+use mathlib.Core.Bool.{true, false}
 use mathlib.Core.List.{List, [], _∷_}
 use mathlib.Core.Logic.{⊎-elim}
 use Prim.Native.Nat.{ℕ, _+_, _-_, _*_, _/_, _%_, _^_, _≤_, _<_}
@@ -89,9 +89,6 @@ module _ (none i e : ℕ) (xs : List ℕ) (a : Answer) where
 module _ (xs : List ℕ) (k p : ℕ) (q : k ≡ p) (h : length xs ≡ 0 → ⊥) where
   pub short-at : (none i n : ℕ) (a : Answer) → flag xs i ≡ true → length xs < k + n → answer 11 [] ≡ unless (notField none i (p + n) xs) a
   short-at none i n a f l = short none i (p + n) xs a h f (omega arith)
-
-  there-at : (none i n : ℕ) (a : Answer) → flag xs i ≡ true → k + n ≤ length xs → a ≡ unless (notField none i (p + n) xs) a
-  there-at none i n a f l = there none i (p + n) xs a h f (omega arith)
 
   -- a length byte that is missing, and bytes after it that are
   pub unmeasured : (i : ℕ) (a : Answer) → flag xs i ≡ true → length xs ≤ k → answer 11 [] ≡ unless (notField 1 i (measuredEnd xs p) xs) a

@@ -1,5 +1,6 @@
--- What the definitions of `specs/` come to on the bytes, in each case. The functions' proofs are `search control-laws`: each premise is a test
--- or a promise that a need is handed, and the answer is as the code computes it. Callers' proofs cite them too.
+-- What the definitions of `specs/` come to on the bytes, in each case. The functions' proofs are `search control-laws`, where each premise is a
+-- test or a promise that a need is handed and the answer is as the code computes it, or `LAW _ (omega arith)`, where a bound decides. Callers'
+-- proofs cite them too.
 -- Assumes nothing.
 use mathlib.Core.Path.{_≡_, refl, sym, ap, ap₂, _∙_}
 use mathlib.Core.Bool.{true, false, not}
@@ -156,13 +157,13 @@ pub counter-made : (v x : ℕ) → answer 0 (x ∷ []) ≡ makeCounter v → x �
 unfolding makeCounter
 counter-made v x p = limited-value (ltb v (2 ^ 4)) x v p
 
-pub pid-in : (n : ℕ) → n ≤ 0x1fff → answer 0 (n ∷ []) ≡ makePid n
+pub pid-in : (n : ℕ) → n < 8192 → answer 0 (n ∷ []) ≡ makePid n
 unfolding makePid
-pid-in n h = limited-in n (2 ^ 13) (n ∷ []) (omega arith)
+pid-in n h = limited-in n (2 ^ 13) (n ∷ []) h
 
-pub pid-out : (n : ℕ) → 0x1fff < n → answer 14 [] ≡ makePid n
+pub pid-out : (n : ℕ) → 8192 ≤ n → answer 14 [] ≡ makePid n
 unfolding makePid
-pid-out n h = limited-out n (2 ^ 13) (n ∷ []) (omega arith)
+pid-out n h = limited-out n (2 ^ 13) (n ∷ []) h
 
 module _ (a b : ClockRef) where
   -- of two clock references with one base the extensions decide

@@ -1,5 +1,6 @@
--- What the definitions of `specs/Stamp.antt` come to on the bytes, in each case. The functions' proofs are `search timestamp-laws`: each premise
--- is a test or a promise that a need is handed, and the answer is as the code computes it. Callers' proofs cite them too.
+-- What the definitions of `specs/Stamp.antt` come to on the bytes, in each case. The functions' proofs are `search timestamp-laws`, where each
+-- premise is a test or a promise that a need is handed and the answer is as the code computes it, or `LAW _ (omega arith)`, where a bound
+-- decides. Callers' proofs cite them too.
 -- Assumes nothing.
 use mathlib.Core.Path.{_≡_, refl, sym, ap, _∙_}
 use mathlib.Core.Bool.{Bool, true, false}
