@@ -3,4 +3,6 @@ use Rattle.contents.proofs.additional_copy_info_flag.Statement.{stateme
 use Rattle.contents.proofs.additional_copy_info_flag.Tie as tie
 
 pub additional-copy-info-flag-spec : {M : Type 1} → statement M
-additional-copy-info-flag-spec = tie.close (tie.spec (λ c. search contents-laws) (λ c. search contents-laws))
+additional-copy-info-flag-spec {M} =
+    let answers = tie.spec {M = M} (λ c. search contents-laws) (λ c. search contents-laws) in
+    tie.close answers

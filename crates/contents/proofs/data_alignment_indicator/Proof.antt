@@ -3,6 +3,6 @@ use Rattle.contents.proofs.data_alignment_indicator.Statement.{statemen
 use Rattle.contents.proofs.data_alignment_indicator.Tie as tie
 
 pub data-alignment-indicator-spec : {M : Type 1} → statement M
-data-alignment-indicator-spec =
-    tie.close
-    (tie.spec (λ c κs. search contents-laws) (λ c. search contents-laws) (λ c. search contents-laws) (λ c. search contents-laws) (λ c. search contents-laws) (λ c. search contents-laws) (λ c. search contents-laws))
+data-alignment-indicator-spec {M} =
+    let answers = tie.spec {M = M} (λ c κs. search contents-laws) (λ c. search contents-laws) (λ c. search contents-laws) (λ c. search contents-laws) (λ c. search contents-laws) (λ c. search contents-laws) (λ c. search contents-laws) in
+    tie.close answers

@@ -3,8 +3,8 @@ use Rattle.contents.proofs.dsm_trick_mode.Statement.{statement}
 use Rattle.contents.proofs.dsm_trick_mode.Tie as tie
 
 pub dsm-trick-mode-spec : {M : Type 1} → statement M
-dsm-trick-mode-spec =
-    tie.close
-    (tie.spec (λ c κs. search trick-laws) (λ c. search trick-laws) (λ c. search trick-laws) (λ c κs. search trick-laws)
+dsm-trick-mode-spec {M} =
+    let answers = tie.spec {M = M} (λ c κs. search trick-laws) (λ c. search trick-laws) (λ c. search trick-laws) (λ c κs. search trick-laws)
     (λ c κs. search trick-laws) (λ c. search trick-laws) (λ c κs. search trick-laws) (λ c. search trick-laws) (λ c. search trick-laws)
-    (λ c. search trick-laws))
+    (λ c. search trick-laws) in
+    tie.close answers

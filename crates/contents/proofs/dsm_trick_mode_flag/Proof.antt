@@ -3,4 +3,6 @@ use Rattle.contents.proofs.dsm_trick_mode_flag.Statement.{statement}
 use Rattle.contents.proofs.dsm_trick_mode_flag.Tie as tie
 
 pub dsm-trick-mode-flag-spec : {M : Type 1} → statement M
-dsm-trick-mode-flag-spec = tie.close (tie.spec (λ c. search contents-laws) (λ c. search contents-laws))
+dsm-trick-mode-flag-spec {M} =
+    let answers = tie.spec {M = M} (λ c. search contents-laws) (λ c. search contents-laws) in
+    tie.close answers

@@ -3,4 +3,6 @@ use Rattle.contents.proofs.escr_flag.Statement.{statement}
 use Rattle.contents.proofs.escr_flag.Tie as tie
 
 pub escr-flag-spec : {M : Type 1} → statement M
-escr-flag-spec = tie.close (tie.spec (λ c. search contents-laws) (λ c. search contents-laws))
+escr-flag-spec {M} =
+    let answers = tie.spec {M = M} (λ c. search contents-laws) (λ c. search contents-laws) in
+    tie.close answers

@@ -3,4 +3,6 @@ use Rattle.contents.proofs.esrate_flag.Statement.{statement}
 use Rattle.contents.proofs.esrate_flag.Tie as tie
 
 pub esrate-flag-spec : {M : Type 1} → statement M
-esrate-flag-spec = tie.close (tie.spec (λ c. search contents-laws) (λ c. search contents-laws))
+esrate-flag-spec {M} =
+    let answers = tie.spec {M = M} (λ c. search contents-laws) (λ c. search contents-laws) in
+    tie.close answers

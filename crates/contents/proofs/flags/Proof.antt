@@ -3,5 +3,6 @@ use Rattle.contents.proofs.flags.Statement.{statement}
 use Rattle.contents.proofs.flags.Tie as tie
 
 pub flags-spec : {M : Type 1} → statement M
-flags-spec =
-    tie.close (tie.spec (λ c κs. search contents-laws) (λ c. search contents-laws) (λ c. search contents-laws) (λ c. search contents-laws) (λ c. search contents-laws) (λ c. search contents-laws))
+flags-spec {M} =
+    let answers = tie.spec {M = M} (λ c κs. search contents-laws) (λ c. search contents-laws) (λ c. search contents-laws) (λ c. search contents-laws) (λ c. search contents-laws) (λ c. search contents-laws) in
+    tie.close answers

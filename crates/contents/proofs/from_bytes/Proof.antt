@@ -3,7 +3,7 @@ use Rattle.contents.proofs.from_bytes.Statement.{statement}
 use Rattle.contents.proofs.from_bytes.Tie as tie
 
 pub from-bytes-spec : {M : Type 1} → statement M
-from-bytes-spec =
-    tie.close
-    (tie.spec (λ c. search contents-laws) (λ c. search contents-laws) (λ c. search contents-laws) (λ c κs. search contents-laws) (λ c. search contents-laws) (λ c κs. search contents-laws)
-    (λ c. search contents-laws) (λ c. search contents-laws))
+from-bytes-spec {M} =
+    let answers = tie.spec {M = M} (λ c. search contents-laws) (λ c. search contents-laws) (λ c. search contents-laws) (λ c κs. search contents-laws) (λ c. search contents-laws) (λ c κs. search contents-laws)
+    (λ c. search contents-laws) (λ c. search contents-laws) in
+    tie.close answers

@@ -3,6 +3,6 @@ use Rattle.contents.proofs.original_or_copy.Statement.{statement}
 use Rattle.contents.proofs.original_or_copy.Tie as tie
 
 pub original-or-copy-spec : {M : Type 1} → statement M
-original-or-copy-spec =
-    tie.close
-    (tie.spec (λ c κs. search contents-laws) (λ c. search contents-laws) (λ c. search contents-laws) (λ c. search contents-laws) (λ c. search contents-laws) (λ c. search contents-laws) (λ c. search contents-laws))
+original-or-copy-spec {M} =
+    let answers = tie.spec {M = M} (λ c κs. search contents-laws) (λ c. search contents-laws) (λ c. search contents-laws) (λ c. search contents-laws) (λ c. search contents-laws) (λ c. search contents-laws) (λ c. search contents-laws) in
+    tie.close answers

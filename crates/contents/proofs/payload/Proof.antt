@@ -4,7 +4,7 @@ use Rattle.contents.proofs.payload.Tie as tie
 
 -- the part that `payload_at` names lies within the contents, so that `part` gives it whole
 pub payload-spec : {M : Type 1} → statement M
-payload-spec =
-    tie.close
-    (tie.spec (λ c κs. search contents-laws) (λ c. search contents-laws) (λ c. search contents-laws) (λ c. search contents-laws) (λ c. search contents-laws) (λ c. search contents-laws)
-    (λ c κs. search contents-laws) (λ c. search contents-laws))
+payload-spec {M} =
+    let answers = tie.spec {M = M} (λ c κs. search contents-laws) (λ c. search contents-laws) (λ c. search contents-laws) (λ c. search contents-laws) (λ c. search contents-laws) (λ c. search contents-laws)
+    (λ c κs. search contents-laws) (λ c. search contents-laws) in
+    tie.close answers

@@ -3,7 +3,7 @@ use Rattle.contents.proofs.payload_at.Statement.{statement}
 use Rattle.contents.proofs.payload_at.Tie as tie
 
 pub payload-at-spec : {M : Type 1} → statement M
-payload-at-spec =
-    tie.close
-    (tie.spec (λ c κs. search contents-laws) (λ c. search contents-laws) (λ c. search contents-laws) (λ c κs. search contents-laws) (λ c. search contents-laws) (λ c. search contents-laws)
-    (λ c. search contents-laws))
+payload-at-spec {M} =
+    let answers = tie.spec {M = M} (λ c κs. search contents-laws) (λ c. search contents-laws) (λ c. search contents-laws) (λ c κs. search contents-laws) (λ c. search contents-laws) (λ c. search contents-laws)
+    (λ c. search contents-laws) in
+    tie.close answers

@@ -3,4 +3,6 @@ use Rattle.contents.proofs.pes_crc_flag.Statement.{statement}
 use Rattle.contents.proofs.pes_crc_flag.Tie as tie
 
 pub pes-crc-flag-spec : {M : Type 1} → statement M
-pes-crc-flag-spec = tie.close (tie.spec (λ c. search contents-laws) (λ c. search contents-laws))
+pes-crc-flag-spec {M} =
+    let answers = tie.spec {M = M} (λ c. search contents-laws) (λ c. search contents-laws) in
+    tie.close answers

@@ -4,7 +4,7 @@ use Rattle.contents.proofs.pes_extension.Tie as tie
 
 -- the part that `pes_extension_at` names lies within the contents, so that `part` gives it whole
 pub pes-extension-spec : {M : Type 1} → statement M
-pes-extension-spec =
-    tie.close
-    (tie.spec (λ c κs. search contents-laws) (λ c. search contents-laws) (λ c. search contents-laws) (λ c. search contents-laws) (λ c. search contents-laws) (λ c. search contents-laws)
-    (λ c κs. search contents-laws) (λ c. search contents-laws))
+pes-extension-spec {M} =
+    let answers = tie.spec {M = M} (λ c κs. search contents-laws) (λ c. search contents-laws) (λ c. search contents-laws) (λ c. search contents-laws) (λ c. search contents-laws) (λ c. search contents-laws)
+    (λ c κs. search contents-laws) (λ c. search contents-laws) in
+    tie.close answers

@@ -3,8 +3,8 @@ use Rattle.contents.proofs.pes_extension_at.Statement.{statement}
 use Rattle.contents.proofs.pes_extension_at.Tie as tie
 
 pub pes-extension-at-spec : {M : Type 1} → statement M
-pes-extension-at-spec =
-    tie.close
-    (tie.spec (λ c κs. search extension-laws) (λ c. search extension-laws) (λ c. search extension-laws) (λ c κs. search extension-laws)
+pes-extension-at-spec {M} =
+    let answers = tie.spec {M = M} (λ c κs. search extension-laws) (λ c. search extension-laws) (λ c. search extension-laws) (λ c κs. search extension-laws)
     (λ c κs. search extension-laws) (λ c κs. search extension-laws) (λ c. search extension-laws) (λ c. search extension-laws) (λ c. search extension-laws)
-    (λ c. search extension-laws))
+    (λ c. search extension-laws) in
+    tie.close answers

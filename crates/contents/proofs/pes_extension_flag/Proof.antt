@@ -3,4 +3,6 @@ use Rattle.contents.proofs.pes_extension_flag.Statement.{statement}
 use Rattle.contents.proofs.pes_extension_flag.Tie as tie
 
 pub pes-extension-flag-spec : {M : Type 1} → statement M
-pes-extension-flag-spec = tie.close (tie.spec (λ c. search contents-laws) (λ c. search contents-laws))
+pes-extension-flag-spec {M} =
+    let answers = tie.spec {M = M} (λ c. search contents-laws) (λ c. search contents-laws) in
+    tie.close answers

@@ -3,5 +3,6 @@ use Rattle.contents.proofs.pes_header_data_len.Statement.{statement}
 use Rattle.contents.proofs.pes_header_data_len.Tie as tie
 
 pub pes-header-data-len-spec : {M : Type 1} → statement M
-pes-header-data-len-spec =
-    tie.close (tie.spec (λ c κs. search contents-laws) (λ c. search contents-laws) (λ c. search contents-laws) (λ c. search contents-laws) (λ c. search contents-laws) (λ c. search contents-laws))
+pes-header-data-len-spec {M} =
+    let answers = tie.spec {M = M} (λ c κs. search contents-laws) (λ c. search contents-laws) (λ c. search contents-laws) (λ c. search contents-laws) (λ c. search contents-laws) (λ c. search contents-laws) in
+    tie.close answers

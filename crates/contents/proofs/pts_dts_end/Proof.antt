@@ -3,7 +3,7 @@ use Rattle.contents.proofs.pts_dts_end.Statement.{statement}
 use Rattle.contents.proofs.pts_dts_end.Tie as tie
 
 pub pts-dts-end-spec : {M : Type 1} → statement M
-pts-dts-end-spec =
-    tie.close
-    (tie.spec (λ c κs. search contents-laws) (λ c. search contents-laws) (λ c. search contents-laws) (λ c. search contents-laws)
-    (λ c. search contents-laws) (λ c. search contents-laws) (λ c. search contents-laws))
+pts-dts-end-spec {M} =
+    let answers = tie.spec {M = M} (λ c κs. search contents-laws) (λ c. search contents-laws) (λ c. search contents-laws) (λ c. search contents-laws)
+    (λ c. search contents-laws) (λ c. search contents-laws) (λ c. search contents-laws) in
+    tie.close answers

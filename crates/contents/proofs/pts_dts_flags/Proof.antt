@@ -3,4 +3,6 @@ use Rattle.contents.proofs.pts_dts_flags.Statement.{statement}
 use Rattle.contents.proofs.pts_dts_flags.Tie as tie
 
 pub pts-dts-flags-spec : {M : Type 1} → statement M
-pts-dts-flags-spec = tie.close (tie.spec (λ c. search contents-laws) (λ c. search contents-laws))
+pts-dts-flags-spec {M} =
+    let answers = tie.spec {M = M} (λ c. search contents-laws) (λ c. search contents-laws) in
+    tie.close answers

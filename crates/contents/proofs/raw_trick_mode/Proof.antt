@@ -3,7 +3,7 @@ use Rattle.contents.proofs.raw_trick_mode.Statement.{statement}
 use Rattle.contents.proofs.raw_trick_mode.Tie as tie
 
 pub raw-trick-mode-spec : {M : Type 1} → statement M
-raw-trick-mode-spec =
-    tie.close
-    (tie.spec (λ c κs. search trick-laws) (λ c. search trick-laws) (λ c. search trick-laws) (λ c κs. search trick-laws)
-    (λ c κs. search trick-laws) (λ c. search trick-laws) (λ c. search trick-laws) (λ c. search trick-laws) (λ c. search trick-laws))
+raw-trick-mode-spec {M} =
+    let answers = tie.spec {M = M} (λ c κs. search trick-laws) (λ c. search trick-laws) (λ c. search trick-laws) (λ c κs. search trick-laws)
+    (λ c κs. search trick-laws) (λ c. search trick-laws) (λ c. search trick-laws) (λ c. search trick-laws) (λ c. search trick-laws) in
+    tie.close answers

@@ -4,7 +4,7 @@ use Rattle.contents.proofs.stamp_at.Tie as tie
 
 -- five bytes with no look at the prefix are refused by a marker alone: the two other answers do not arise
 pub stamp-at-spec : {M : Type 1} → statement M
-stamp-at-spec =
-    tie.close
-    (tie.spec (λ c. search contents-laws) (λ c. search contents-laws) (λ c. search contents-laws) (λ c κs. search contents-laws) (λ c. search contents-laws) (λ c. search contents-laws) (λ c. search contents-laws)
-    (λ c. search contents-laws) (λ c. search contents-laws) (λ c. search contents-laws) (λ c. search contents-laws) (λ c. search contents-laws))
+stamp-at-spec {M} =
+    let answers = tie.spec {M = M} (λ c. search contents-laws) (λ c. search contents-laws) (λ c. search contents-laws) (λ c κs. search contents-laws) (λ c. search contents-laws) (λ c. search contents-laws) (λ c. search contents-laws)
+    (λ c. search contents-laws) (λ c. search contents-laws) (λ c. search contents-laws) (λ c. search contents-laws) (λ c. search contents-laws) in
+    tie.close answers

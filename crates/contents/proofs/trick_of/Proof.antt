@@ -3,7 +3,7 @@ use Rattle.contents.proofs.trick_of.Statement.{statement}
 use Rattle.contents.proofs.trick_of.Tie as tie
 
 pub trick-of-spec : {M : Type 1} → statement M
-trick-of-spec =
-    tie.close
-    (tie.spec (λ c κs. search contents-laws) (λ c κs. search contents-laws) (λ c. search contents-laws) (λ c. search contents-laws) (λ c. search contents-laws) (λ c. search contents-laws)
-    (λ c. search contents-laws) (λ c. search contents-laws))
+trick-of-spec {M} =
+    let answers = tie.spec {M = M} (λ c κs. search contents-laws) (λ c κs. search contents-laws) (λ c. search contents-laws) (λ c. search contents-laws) (λ c. search contents-laws) (λ c. search contents-laws)
+    (λ c. search contents-laws) (λ c. search contents-laws) in
+    tie.close answers

@@ -3,7 +3,7 @@ use Rattle.packet.proofs.adaptation_control.Statement.{statement}
 use Rattle.packet.proofs.adaptation_control.Tie as tie
 
 pub adaptation-control-spec : {M : Type 1} → statement M
-adaptation-control-spec =
-    tie.close
-    (tie.spec (λ c. search packet-laws) (λ c. search packet-laws) (λ c. search packet-laws) (λ c. search packet-laws) (λ c κs. search packet-laws)
-    (λ c. search packet-laws))
+adaptation-control-spec {M} =
+    let answers = tie.spec {M = M} (λ c. search packet-laws) (λ c. search packet-laws) (λ c. search packet-laws) (λ c. search packet-laws) (λ c κs. search packet-laws)
+    (λ c. search packet-laws) in
+    tie.close answers

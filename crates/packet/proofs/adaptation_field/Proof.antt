@@ -4,7 +4,7 @@ use Rattle.packet.proofs.adaptation_field.Tie as tie
 
 -- the part that `adaptation_field_at` names lies within the packet, so that `part` gives it whole
 pub adaptation-field-spec : {M : Type 1} → statement M
-adaptation-field-spec =
-    tie.close
-    (tie.spec (λ c κs. search packet-laws) (λ c. search packet-laws) (λ c. search packet-laws) (λ c. search packet-laws) (λ c. search packet-laws)
-    (λ c. search packet-laws) (λ c κs. search packet-laws) (λ c. search packet-laws))
+adaptation-field-spec {M} =
+    let answers = tie.spec {M = M} (λ c κs. search packet-laws) (λ c. search packet-laws) (λ c. search packet-laws) (λ c. search packet-laws) (λ c. search packet-laws)
+    (λ c. search packet-laws) (λ c κs. search packet-laws) (λ c. search packet-laws) in
+    tie.close answers

@@ -3,4 +3,6 @@ use Rattle.packet.proofs.try_new.Statement.{statement}
 use Rattle.packet.proofs.try_new.Tie as tie
 
 pub try-new-spec : {M : Type 1} → statement M
-try-new-spec = tie.close (tie.spec (λ c. search packet-laws) (λ c. search packet-laws) (λ c. search packet-laws) (λ c. search packet-laws))
+try-new-spec {M} =
+    let answers = tie.spec {M = M} (λ c. search packet-laws) (λ c. search packet-laws) (λ c. search packet-laws) (λ c. search packet-laws) in
+    tie.close answers

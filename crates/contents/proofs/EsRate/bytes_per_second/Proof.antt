@@ -3,5 +3,6 @@ use Rattle.contents.proofs.EsRate.bytes_per_second.Statement.{statement
 use Rattle.contents.proofs.EsRate.bytes_per_second.Tie as tie
 
 pub bytes-per-second-spec : {M : Type 1} → statement M
-bytes-per-second-spec =
-    tie.close (tie.spec (λ c. search contents-laws) (λ c. search contents-laws) (λ c. search contents-laws))
+bytes-per-second-spec {M} =
+    let answers = tie.spec {M = M} (λ c. search contents-laws) (λ c. search contents-laws) (λ c. search contents-laws) in
+    tie.close answers

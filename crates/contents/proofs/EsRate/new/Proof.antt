@@ -3,5 +3,6 @@ use Rattle.contents.proofs.EsRate.new.Statement.{statement}
 use Rattle.contents.proofs.EsRate.new.Tie as tie
 
 pub new-spec : {M : Type 1} → statement M
-new-spec =
-    tie.close (tie.spec (λ c. search contents-laws) (λ c. search contents-laws))
+new-spec {M} =
+    let answers = tie.spec {M = M} (λ c. search contents-laws) (λ c. search contents-laws) in
+    tie.close answers

@@ -6,8 +6,8 @@ use Rattle.pes.proofs.StreamId.is_parsed.Tie as tie
 -- at each of the eight the definition computes
 pub is-parsed-spec : {M : Type 1} → statement M
 unfolding parsedId
-is-parsed-spec =
-    tie.close
-    (tie.spec (λ c. search pes-laws) (λ c. search pes-laws) (λ c. search pes-laws) (λ c. search pes-laws) (λ c. search pes-laws)
+is-parsed-spec {M} =
+    let answers = tie.spec {M = M} (λ c. search pes-laws) (λ c. search pes-laws) (λ c. search pes-laws) (λ c. search pes-laws) (λ c. search pes-laws)
     (λ c. search pes-laws) (λ c. search pes-laws) (λ c. search pes-laws) (λ c. search pes-laws) (λ c. search pes-laws) (λ c. search pes-laws)
-    (λ c. search pes-laws) (λ c. search pes-laws) (λ c. search pes-laws) (λ c. search pes-laws) (λ c. search pes-laws) (λ c. search pes-laws))
+    (λ c. search pes-laws) (λ c. search pes-laws) (λ c. search pes-laws) (λ c. search pes-laws) (λ c. search pes-laws) (λ c. search pes-laws) in
+    tie.close answers
