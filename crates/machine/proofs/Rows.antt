@@ -1,7 +1,7 @@
 -- What a row stands for, in each case.
 -- Assumes nothing.
-use mathlib.Core.Path.{_≡_, refl, sym, ap, _∙_}
-use mathlib.Core.Bool.{Bool, true, false}
+use mathlib.Core.Path.{_≡_, refl, ap}
+use mathlib.Core.Bool.{true, false}
 use mathlib.Core.List.{List, [], _∷_}
 use Prim.Native.Nat.{ℕ, _≤_, _<_}
 use native.Mathlib.Omega.{arith}
@@ -22,7 +22,6 @@ use Rattle.machine.specs.declared.row.RowRead.the-variants.{Is, Stray}
 use Rattle.machine.specs.Events.{asCounter}
 use Rattle.machine.specs.Step.{wrongLast}
 use Rattle.machine.specs.Row.{phaseOf, lastOf, phaseNumber, lastNumber, strays, machineOf, rowOf}
-use Rattle.machine.proofs.Laws.{never}
 
 module _ (xs : List ℕ) where
   pub stray-phase : 2 < getD xs 0 0 → Stray ≡ machineOf xs

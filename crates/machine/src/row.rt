@@ -1,7 +1,7 @@
 // A machine as the row of numbers that a host keeps and lends: phase 0, 1, 2 for Begin, Started and IgnoreRest; the last counter or 255 for
 // none; the packets taken so far; and the next free place of the log.
 ghost use mathlib.Core.Path.{_≡_};
-ghost use Rattle.machine.specs.Row.{phaseOf, lastOf, phaseNumber, lastNumber, machineOf, rowOf};
+ghost use Rattle.machine.specs.Row.{phaseOf, phaseNumber, lastNumber, machineOf, rowOf};
 use crate::Last;
 use crate::Machine;
 use crate::Phase;
