@@ -8,7 +8,7 @@ from typing import NamedTuple
 
 from refused import TOP, edit_files, read_edits
 
-PROGRAMS = ("events", "examples", "replay")  # no other crate calls them
+PROGRAMS = ("lister", "examples", "recorded")  # no other crate calls them
 PRIVATE = "-- ---- cited by private functions alone"  # what a reader of a file of definitions may skip, from here to its end
 
 

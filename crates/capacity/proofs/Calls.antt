@@ -10,7 +10,7 @@ use Rattle.bits.specs.Answer.{answer, pick, All}
 use Rattle.bits.specs.Numbers.{done}
 use Rattle.log.specs.declared.Event.{Event}
 use Rattle.log.specs.Entry.{eventValues, readEntry}
-use Rattle.machine.specs.Run.{packetsOf, shifted}
+use Rattle.machine.specs.Run.{packetsIn, shifted}
 use Rattle.gather.specs.Belongs.{eventBytes}
 use Rattle.gather.specs.Gather.{eventGood, added, next, numberOf, gatherOf, storeOf}
 use Rattle.gather.specs.Units.{Standing, packetOf, answered, called, gatherAll, answers, bytesAt, lastOf, Inside}
@@ -37,41 +37,41 @@ events-read log at (e ∷ es) h =
 
 module _ (d : ℕ) (bytes : List ℕ) (k : ℕ) (whole : length bytes ≡ 188 * k) where
   -- the packet of an event whose index has been shifted
-  pub packet-at : (e : Event) → packetAt d bytes (shifted d e) ≡ packetOf (packetsOf bytes) e
-  unfolding packetsOf
+  pub packet-at : (e : Event) → packetAt d bytes (shifted d e) ≡ packetOf (packetsIn bytes) e
+  unfolding packetsIn
   packet-at e =
       let j : d + e .index - d ≡ e .index = omega arith in
       let n : length bytes / 188 ≡ k = omega arith in
       rw (j, n) (sym (chunk-at k (e .index) bytes whole))
 
-  pub bytes-shifted : (e : Event) → eventBytes (packetAt d bytes (shifted d e)) (shifted d e) ≡ bytesAt (packetsOf bytes) e
+  pub bytes-shifted : (e : Event) → eventBytes (packetAt d bytes (shifted d e)) (shifted d e) ≡ bytesAt (packetsIn bytes) e
   unfolding eventBytes
   bytes-shifted e = ap (λ (p : List ℕ). take (e .length) (drop (e .place) p)) (packet-at e)
 
   -- the gathering store does not look at an event's index
-  called-shifted : (t : Standing) (e : Event) → afterCall d bytes t (shifted d e) ≡ called (packetsOf bytes) t e
+  called-shifted : (t : Standing) (e : Event) → afterCall d bytes t (shifted d e) ≡ called (packetsIn bytes) t e
   unfolding gatherOf storeOf numberOf eventGood added next eventBytes
   called-shifted t e = rw (packet-at e)
 
-  number-shifted : (t : Standing) (e : Event) → call d bytes t (shifted d e) .number ≡ answered (packetsOf bytes) t e .number
+  number-shifted : (t : Standing) (e : Event) → call d bytes t (shifted d e) .number ≡ answered (packetsIn bytes) t e .number
   unfolding gatherOf numberOf eventGood added next eventBytes
   number-shifted t e = rw (packet-at e)
 
   -- call by call
-  pub numbers-shifted : (t : Standing) (es : List Event) → callNumbers d bytes t (map (shifted d) es) ≡ answers (packetsOf bytes) t es
+  pub numbers-shifted : (t : Standing) (es : List Event) → callNumbers d bytes t (map (shifted d) es) ≡ answers (packetsIn bytes) t es
   unfolding callNumbers
   numbers-shifted t [] = refl
   numbers-shifted t (e ∷ es) =
       ap₂ (λ (n : ℕ) (ns : List ℕ). n ∷ ns) (number-shifted t e)
       (ap (λ (s : Standing). callNumbers d bytes s (map (shifted d) es)) (called-shifted t e)
-      ∙ numbers-shifted (called (packetsOf bytes) t e) es)
+      ∙ numbers-shifted (called (packetsIn bytes) t e) es)
 
-  pub calls-shifted : (t : Standing) (es : List Event) → afterCalls d bytes t (map (shifted d) es) ≡ gatherAll (packetsOf bytes) t es
+  pub calls-shifted : (t : Standing) (es : List Event) → afterCalls d bytes t (map (shifted d) es) ≡ gatherAll (packetsIn bytes) t es
   unfolding afterCalls
   calls-shifted t [] = refl
   calls-shifted t (e ∷ es) =
       ap (λ (s : Standing). afterCalls d bytes s (map (shifted d) es)) (called-shifted t e)
-      ∙ calls-shifted (called (packetsOf bytes) t e) es
+      ∙ calls-shifted (called (packetsIn bytes) t e) es
 
 -- ---- the segments of shifted events, and the last event
 

@@ -17,7 +17,7 @@ use Rattle.machine.specs.declared.Phase.{Phase}
 use Rattle.machine.specs.declared.Phase.the-variants.{Begin, Started, IgnoreRest}
 use Rattle.machine.specs.declared.Last.{Last}
 use Rattle.machine.specs.declared.Last.the-variants.{Nothing, At}
-use Rattle.machine.specs.Events.{asCounter, State, state, headAccepted, held, continuous, opened, begun, continued, eventsOf, phaseAfter, next, run}
+use Rattle.machine.specs.Events.{asCounter, State, state, headAccepted, eventWithPayload, continuous, atStart, begun, continued, eventsOf, phaseAfter, next, run}
 use Rattle.gather.specs.Belongs.{eventBytes}
 use Rattle.writer.specs.Packets.{carrier, carried}
 use Rattle.machine.specs.Run.{IsPacket}
@@ -35,7 +35,7 @@ continuous-made c Nothing p h f e = refl
 continuous-made c (At l) p h f e = rw f (eq-eqb ((l .val + 1) % 16) (counterField p) (h ∙ sym e))
 
 module _ (id c : ℕ) (xs : List ℕ) (fits : c ≤ 15) (low : 1 ≤ length xs) (high : length xs ≤ 184) where
-  held-made : (start k i : ℕ) → held k i (carrier start id c xs) ≡ endOf k i (length xs)
+  held-made : (start k i : ℕ) → eventWithPayload k i (carrier start id c xs) ≡ endOf k i (length xs)
   held-made start k i =
       let q = content-back start id c xs high in
       let r : 188 - contentAt (carrier start id c xs) ≡ length xs = omega (arith, q) in
@@ -62,7 +62,7 @@ module _ (id c : ℕ) (xs : List ℕ) (fits : c ≤ 15) (low : 1 ≤ length xs) 
 
   -- the first packet: what the phase gives, and a begin
   step-first : (i : ℕ) (s : State) → Before c (s .last) → headAccepted xs ≡ true
-      → eventsOf i s (carrier 1 id c xs) ≡ opened (s .phase) i ++ (endOf beginPacket i (length xs) ∷ [])
+      → eventsOf i s (carrier 1 id c xs) ≡ atStart (s .phase) i ++ (endOf beginPacket i (length xs) ∷ [])
   unfolding eventsOf begun
   step-first i s h a =
       simp (
@@ -71,7 +71,7 @@ module _ (id c : ℕ) (xs : List ℕ) (fits : c ≤ 15) (low : 1 ≤ length xs) 
         payload-back 1 id c xs high low,
         rest-back 1 id c xs high,
         a,
-      ) (ap (λ (e : Event). opened (s .phase) i ++ (e ∷ [])) (held-made 1 beginPacket i))
+      ) (ap (λ (e : Event). atStart (s .phase) i ++ (e ∷ [])) (held-made 1 beginPacket i))
 
   next-first : (s : State) → next s (carrier 1 id c xs) ≡ state Started (At (asCounter c))
   unfolding next phaseAfter
@@ -139,7 +139,7 @@ unfolding segments continuesOf
 none-begun zero i m = refl
 none-begun (suc k) i m = none-begun k (suc i) (m - 184)
 
-past-opened : (f : Phase) (i : ℕ) (es : List Event) → segments (opened f i ++ es) ≡ segments es
+past-opened : (f : Phase) (i : ℕ) (es : List Event) → segments (atStart f i ++ es) ≡ segments es
 unfolding segments
 past-opened Begin i es = refl
 past-opened Started i es = refl

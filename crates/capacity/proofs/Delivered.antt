@@ -11,11 +11,11 @@ use lib.ListN.{length, take}
 use Rattle.bits.specs.Answer.{All}
 use Rattle.log.specs.Entry.{beginPacket}
 use Rattle.machine.specs.declared.Machine.{Machine}
-use Rattle.machine.specs.Events.{State, opened, run}
+use Rattle.machine.specs.Events.{State, atStart, run}
 use Rattle.machine.specs.Step.{stateOf}
 use Rattle.machine.specs.Run.{shifted}
 use Rattle.machine.proofs.Theorems.{run-shift}
-use Rattle.gather.specs.Units.{Standing, gatherAll, answers, readAt, bytesAt, bytesAtAll, unitBytes, lastOf, Good, Taken, Open}
+use Rattle.gather.specs.Units.{Standing, gatherAll, answers, readAt, bytesAt, bytesAtAll, unitBytes, lastOf, GatheringStands, Taken, Open}
 use Rattle.gather.proofs.Theorems.{own-payload, gather-append, taken-append, gathering-open}
 use Rattle.writer.specs.declared.Route.{Route}
 use Rattle.writer.specs.declared.Unit.{Unit}
@@ -71,7 +71,7 @@ module _ (r : Route) (u : Unit) (payload : List ℕ) (ok : Permitted r u (length
   permitted-header =
       rw (first-is r u payload ok) (header-read u (length payload) (unit-fits r u (length payload) ok) (take (175 - dataOf u) payload))
 
-  pub permitted-gathered : (s : State) (t : Standing) → Ready r s → Good t → length payload ≤ length (t .store)
+  pub permitted-gathered : (s : State) (t : Standing) → Ready r s → GatheringStands t → length payload ≤ length (t .store)
       → let ps = packetsOf r u payload in
       let cs = continuesOf 1 (countOf u (length payload) - 1) (9 + dataOf u + length payload - 184) in
       let b = endOf beginPacket 0 (min 184 (9 + dataOf u + length payload)) in
@@ -88,7 +88,7 @@ module _ (r : Route) (u : Unit) (payload : List ℕ) (ok : Permitted r u (length
       let cs = continuesOf 1 (k - 1) (m - 184) in
       let long : 1 + (k - 1) ≤ length ps = long-enough r u payload in
       let all = all-packets r u payload in
-      let es = opened (s .phase) 0 in
+      let es = atStart (s .phase) 0 in
       let o = opened-taken ps all t good (omega arith) (s .phase) in
       let t₁ = gatherAll ps t es in
       let e : run 0 s ps ≡ es ++ (b ∷ cs) = unit-run r u payload ok s f in

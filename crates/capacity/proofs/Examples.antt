@@ -32,7 +32,7 @@ use Rattle.writer.specs.declared.Unit.{Unit}
 use Rattle.writer.specs.Unit.{dataOf, statedLength, countOf}
 use Rattle.writer.specs.Writer.{routeTests, unitTests, sizeTests, writeOf}
 use Rattle.gather.specs.Gather.{stateGood}
-use Rattle.gather.specs.Gather.{fresh as closed}
+use Rattle.gather.specs.Gather.{emptied}
 use Rattle.gather.specs.Units.{standing, bytesAt}
 use Rattle.capacity.specs.Reads.{upToBegin, segment, segments, HasFields, Delivers}
 use Rattle.capacity.specs.Demand.{Permitted, Accepts, countGiven, outputBytes, continuesOf, eventsWritten}
@@ -79,10 +79,10 @@ unfolding writeOf routeTests unitTests sizeTests statedLength countOf dataOf par
 accepted-some = refl
 
 pub read-back-some : ReadBack way small (7 ∷ []) (countGiven way small (7 ∷ []) (replicate 188 0))
-    (outputBytes way small (7 ∷ []) (replicate 188 0)) fresh (replicate 16 0) (standing closed (0 ∷ []))
+    (outputBytes way small (7 ∷ []) (replicate 188 0)) fresh (replicate 16 0) (standing emptied (0 ∷ []))
 unfolding stateGood writeOf routeTests unitTests sizeTests statedLength countOf dataOf parsedId eventsWritten continuesOf
 read-back-some =
-    read-back way small (7 ∷ []) (replicate 188 0) fresh (replicate 16 0) (standing closed (0 ∷ [])) accepted-some
+    read-back way small (7 ∷ []) (replicate 188 0) fresh (replicate 16 0) (standing emptied (0 ∷ [])) accepted-some
     (record { id-byte = omega arith; trick-byte = omega arith; crc-word = omega arith })
     (omega arith) (refl, omega arith, refl) (omega arith) (omega arith) refl (omega arith)
 

@@ -8,9 +8,9 @@ use lib.ListN.{length}
 use Rattle.bits.specs.Answer.{All}
 use Rattle.machine.specs.declared.Phase.{Phase}
 use Rattle.machine.specs.declared.Phase.the-variants.{Begin, Started, IgnoreRest}
-use Rattle.machine.specs.Events.{plain, opened}
+use Rattle.machine.specs.Events.{eventAlone, atStart}
 use Rattle.machine.specs.Run.{IsPacket}
-use Rattle.gather.specs.Units.{Standing, gatherAll, answers, Inside, Good, Kind, Taken}
+use Rattle.gather.specs.Units.{Standing, gatherAll, answers, Inside, GatheringStands, Kind, Taken}
 use Rattle.gather.proofs.Theorems.{start-leaves, end-keeps, all-good}
 use Rattle.writer.specs.declared.Route.{Route}
 use Rattle.writer.specs.declared.Unit.{Unit}
@@ -32,19 +32,19 @@ unfolding continuesOf
 continues-inside ps i zero m h = tt
 continues-inside ps i (suc k) m h = ((omega arith, part-inside m), continues-inside ps (suc i) k (m - 184) (omega arith))
 
-module _ (ps : List (List ℕ)) (all : All IsPacket ps) (t : Standing) (ok : Good t) (some : 0 < length ps) where
+module _ (ps : List (List ℕ)) (all : All IsPacket ps) (t : Standing) (ok : GatheringStands t) (some : 0 < length ps) where
   -- what the phase gives before the begin is taken, and leaves a state that can be and the store's length
-  pub opened-taken : (f : Phase) → All Taken (answers ps t (opened f 0)) × Good (gatherAll ps t (opened f 0))
-      × (length (gatherAll ps t (opened f 0) .store) ≡ length (t .store))
+  pub opened-taken : (f : Phase) → All Taken (answers ps t (atStart f 0)) × GatheringStands (gatherAll ps t (atStart f 0))
+      × (length (gatherAll ps t (atStart f 0) .store) ≡ length (t .store))
   opened-taken Begin =
-      let i : Inside ps (plain 1 0) = (some, omega arith) in
-      let a = start-leaves ps all t (plain 1 0) i refl ok in
-      let g = all-good ps all t (plain 1 0 ∷ []) ((omega arith, omega arith), tt) (i, tt) ok in
+      let i : Inside ps (eventAlone 1 0) = (some, omega arith) in
+      let a = start-leaves ps all t (eventAlone 1 0) i refl ok in
+      let g = all-good ps all t (eventAlone 1 0 ∷ []) ((omega arith, omega arith), tt) (i, tt) ok in
       ((a .0, tt), g .0, g .1)
   opened-taken Started =
-      let i : Inside ps (plain 4 0) = (some, omega arith) in
-      let a = end-keeps ps all t (plain 4 0) i refl ok in
-      let g = all-good ps all t (plain 4 0 ∷ []) ((omega arith, omega arith), tt) (i, tt) ok in
+      let i : Inside ps (eventAlone 4 0) = (some, omega arith) in
+      let a = end-keeps ps all t (eventAlone 4 0) i refl ok in
+      let g = all-good ps all t (eventAlone 4 0 ∷ []) ((omega arith, omega arith), tt) (i, tt) ok in
       ((a .0, tt), g .0, g .1)
   opened-taken IgnoreRest = (tt, ok, refl)
 

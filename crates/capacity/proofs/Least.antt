@@ -21,7 +21,7 @@ use Rattle.log.specs.declared.Event.{Event}
 use Rattle.log.specs.Entry.{beginPacket, continuePacket}
 use Rattle.machine.specs.declared.Phase.{Phase}
 use Rattle.machine.specs.declared.Phase.the-variants.{Begin, Started, IgnoreRest}
-use Rattle.machine.specs.Events.{State, startFlag, headAccepted, held, continuous, broken, settled, opened, begun, continued, eventsOf}
+use Rattle.machine.specs.Events.{State, startFlag, headAccepted, eventWithPayload, continuous, broken, settled, atStart, begun, continued, eventsOf}
 use Rattle.machine.specs.Events.{next, run}
 use Rattle.pes_header.specs.Payload.{headerPayload, payloadBytes}
 use Rattle.gather.specs.Belongs.{eventBytes}
@@ -71,14 +71,14 @@ within-none : (k : ℕ) → Within k []
 within-none k = (omega arith, tt)
 
 module _ (i : ℕ) (p : List ℕ) where
-  within-held : Within 1 (held beginPacket i p ∷ []) × Within 1 (held continuePacket i p ∷ [])
+  within-held : Within 1 (eventWithPayload beginPacket i p ∷ []) × Within 1 (eventWithPayload continuePacket i p ∷ [])
   within-held = let h = content-low p in ((omega arith, (omega arith, tt)), (omega arith, (omega arith, tt)))
 
   within-broken : (c : Bool) → Within 0 (broken c i)
   within-broken true = within-none 0
   within-broken false = (omega arith, (omega arith, tt))
 
-  within-opened : (f : Phase) → Within 0 (opened f i)
+  within-opened : (f : Phase) → Within 0 (atStart f i)
   within-opened Begin = (omega arith, (omega arith, tt))
   within-opened Started = (omega arith, (omega arith, tt))
   within-opened IgnoreRest = within-none 0
@@ -101,7 +101,7 @@ module _ (i : ℕ) (p : List ℕ) where
       let c = continuous (s .last) p in
       let f = settled c (s .phase) in
       within-append 0 1 (broken c i) _ (within-broken c)
-      (within-pick 1 (startFlag p) _ _ (within-append 0 1 (opened f i) (begun i p) (within-opened f) within-begun) (within-continued f))
+      (within-pick 1 (startFlag p) _ _ (within-append 0 1 (atStart f i) (begun i p) (within-opened f) within-begun) (within-continued f))
 
 -- a run has at most as many parts as packets
 run-within : (ps : List (List ℕ)) (i : ℕ) (s : State) → Within (length ps) (run i s ps)

@@ -8,7 +8,7 @@ use lib.ListN.{length, length-append}
 use lib.Seq.{take-at, drop-at}
 use Rattle.bits.specs.Answer.{All}
 use Rattle.machine.specs.Run.{chunk}
-use Rattle.machine.specs.Run.{packetsOf as packetsIn}
+use Rattle.machine.specs.Run.{packetsIn as packetsIn}
 use Rattle.writer.specs.Packets.{flat}
 use Rattle.machine.specs.Run.{IsPacket}
 

@@ -18,12 +18,12 @@ use Rattle.log.specs.Entry.{beginPacket}
 use Rattle.machine.specs.declared.Phase.the-variants.{Begin}
 use Rattle.machine.specs.declared.Last.the-variants.{Nothing}
 use Rattle.machine.specs.declared.Machine.{Machine}
-use Rattle.machine.specs.Events.{State, state, opened, run}
+use Rattle.machine.specs.Events.{State, state, atStart, run}
 use Rattle.machine.specs.Step.{stateOf, Stands}
 use Rattle.machine.specs.Run.{reportOf, ranLog, IsPacket, Logged}
 use Rattle.machine.proofs.Theorems.{run-logged}
-use Rattle.gather.specs.Gather.{readOf, bytesOf}
-use Rattle.gather.specs.Units.{Standing, packetOf, gatherAll, answers, readAt, bytesAt, lastOf, Inside, Good, Taken, Open}
+use Rattle.gather.specs.Gather.{readOf, heldBytes}
+use Rattle.gather.specs.Units.{Standing, packetOf, gatherAll, answers, readAt, bytesAt, lastOf, Inside, GatheringStands, Taken, Open}
 use Rattle.gather.proofs.Laws.{read-done}
 use Rattle.gather.proofs.Theorems.{packet-there}
 use Rattle.writer.specs.declared.Route.{Route}
@@ -254,7 +254,7 @@ logged r u payload out m log h typed f s t l =
 
 -- every call is answered by 0; a unit is open whose bytes are the payload, and they are what is read out
 pub unit-gathered : (r : Route) (u : Unit) (payload out : List ℕ) (s : State) (t : Standing)
-    → Accepts r u payload out → Typed u → Ready r s → Good t → length payload ≤ length (t .store)
+    → Accepts r u payload out → Typed u → Ready r s → GatheringStands t → length payload ≤ length (t .store)
     → let ps = outputPackets r u payload out in
     let cs = continuesOf 1 (countGiven r u payload out - 1) (9 + dataOf u + length payload - 184) in
     let b = endOf beginPacket 0 (min 184 (9 + dataOf u + length payload)) in
@@ -271,7 +271,7 @@ module _ (r : Route) (u : Unit) (payload out : List ℕ) (m : Machine) (log : Li
     (h : Accepts r u payload out) (typed : Typed u)
     (ready : Ready r (stateOf m)) (stands : Stands m log) (long : m .taken + countGiven r u payload out ≤ 4_294_967_295)
     (wide : m .place + 8 * length (eventsLogged u (length payload) m) ≤ length log)
-    (good : Good t) (fits : length payload ≤ length (t .store)) where
+    (good : GatheringStands t) (fits : length payload ≤ length (t .store)) where
   abbrev n : ℕ
   n = length payload
 
@@ -320,7 +320,7 @@ module _ (r : Route) (u : Unit) (payload out : List ℕ) (m : Machine) (log : Li
   unfolding eventsWritten
   last-packet =
       ap (λ (x : List Event). packetAt (m .taken) bytes (lastOf none x)) added-are
-      ∙ (ap (packetAt (m .taken) bytes) (last-past (m .taken) none (opened (m .phase) 0) b cs)
+      ∙ (ap (packetAt (m .taken) bytes) (last-past (m .taken) none (atStart (m .phase) 0) b cs)
       ∙ packet-at (m .taken) bytes (countOf u n) size-is (lastOf b cs))
 
   is-packet : IsPacket (packetOf packets (lastOf b cs))
@@ -350,7 +350,7 @@ module _ (r : Route) (u : Unit) (payload out : List ℕ) (m : Machine) (log : Li
         gathered = subst (All Taken) (sym (ap (callNumbers d bytes t) added-are ∙ numbers-shifted d bytes k size-is t es)) (gathers .0);
         held = ap₂ (λ (s : Standing) (p : List ℕ). readOf (s .gathering) p (s .store)) stands-after last-packet
             ∙ sym (read-done _ _ _ (is-packet .0) (is-packet .1) (gathers .1 .good));
-        read-out = ap₂ (λ (s : Standing) (p : List ℕ). bytesOf (s .gathering) p (s .store)) stands-after last-packet ∙ gathers .2;
+        read-out = ap₂ (λ (s : Standing) (p : List ℕ). heldBytes (s .gathering) p (s .store)) stands-after last-packet ∙ gathers .2;
       }
 
 -- WHAT A CALL OF `write` THAT ANSWERS 0 LEAVES IN ITS OUTPUT READS BACK, CALL BY CALL: by a machine with no last counter or the one just before
@@ -359,6 +359,6 @@ pub read-back : (r : Route) (u : Unit) (payload out : List ℕ) (m : Machine) (l
     → Accepts r u payload out → Typed u
     → Ready r (stateOf m) → Stands m log → m .taken + countGiven r u payload out ≤ 4_294_967_295
     → m .place + 8 * length (eventsLogged u (length payload) m) ≤ length log
-    → Good t → length payload ≤ length (t .store)
+    → GatheringStands t → length payload ≤ length (t .store)
     → ReadBack r u payload (countGiven r u payload out) (outputBytes r u payload out) m log t
 read-back = calls

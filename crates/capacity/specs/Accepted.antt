@@ -10,7 +10,7 @@ use Rattle.bits.specs.Numbers.{done, fieldNotPresent}
 use Rattle.control.specs.Control.{scrambling}
 use Rattle.packet.specs.Packet.{tried, readFlag, errorBit, startBit, priorityBit, readPid, readCounter, readAdaptation, readPayload}
 use Rattle.pes.specs.Stream.{readId}
-use Rattle.pes.specs.Head.{readStreamId, readLength, readContents}
+use Rattle.pes.specs.Head.{readStreamId, readLength, readContentsPart}
 use Rattle.contents.specs.Contents.{scramblingBit, dataLengthBit, readFixed, readExtension}
 use Rattle.contents.specs.Contents.{readPayload as readParsed}
 use Rattle.writer.specs.declared.Unit.{Unit}
@@ -39,7 +39,7 @@ pub record HeaderRead (u : Unit) (n : ℕ) (xs : List ℕ) : Type 0 where
   pub fields : HasFields u xs
   pub stream-id : readStreamId xs ≡ readId (u .id)
   pub bounded : readLength xs ≡ pick (u .bounded) (answer done (1 ∷ (3 + dataOf u + n) ∷ [])) (answer done (0 ∷ []))
-  pub parsed : readContents xs ≡ answer done (1 ∷ 6 ∷ (length xs - 6) ∷ [])
+  pub parsed : readContentsPart xs ≡ answer done (1 ∷ 6 ∷ (length xs - 6) ∷ [])
   pub not-scrambled : readFixed scramblingBit 2 (contents xs) ≡ answer done (0 ∷ [])
   pub no-stuffing : readFixed dataLengthBit 8 (contents xs) ≡ answer done (dataOf u ∷ [])
   pub no-extension : readExtension (contents xs) ≡ answer fieldNotPresent []

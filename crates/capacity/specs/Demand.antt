@@ -14,8 +14,8 @@ use Rattle.machine.specs.declared.Phase.{Phase}
 use Rattle.machine.specs.declared.Last.{Last}
 use Rattle.machine.specs.declared.Last.the-variants.{Nothing, At}
 use Rattle.machine.specs.declared.Machine.{Machine}
-use Rattle.machine.specs.Events.{State, opened, run}
-use Rattle.machine.specs.Run.{packetsOf, shifted}
+use Rattle.machine.specs.Events.{State, atStart, run}
+use Rattle.machine.specs.Run.{packetsIn, shifted}
 use Rattle.writer.specs.declared.Route.{Route}
 use Rattle.writer.specs.declared.Unit.{Unit}
 use Rattle.writer.specs.Unit.{byteField, crcField, Field, absent, holds, dataOf, statedLength, countOf}
@@ -57,7 +57,7 @@ abbrev pub outputBytes : Route → Unit → List ℕ → List ℕ → List ℕ
 outputBytes r u payload out = take (188 * countGiven r u payload out) (outputOf r u payload out)
 
 abbrev pub outputPackets : Route → Unit → List ℕ → List ℕ → List (List ℕ)
-outputPackets r u payload out = packetsOf (outputBytes r u payload out)
+outputPackets r u payload out = packetsIn (outputBytes r u payload out)
 
 -- no last counter, or the one before the first: any phase
 abbrev pub Before : ℕ → Last → Type 0
@@ -80,7 +80,7 @@ continuesOf i (suc k) m = endOf continuePacket i (min 184 m) ∷ continuesOf (su
 
 -- what the phase gives on a start, one begin, then continues: no break
 unfoldable pub eventsWritten : Phase → ℕ → ℕ → List Event
-eventsWritten f k m = opened f 0 ++ (endOf beginPacket 0 (min 184 m) ∷ continuesOf 1 (k - 1) (m - 184))
+eventsWritten f k m = atStart f 0 ++ (endOf beginPacket 0 (min 184 m) ∷ continuesOf 1 (k - 1) (m - 184))
 
 -- ---- read from the strictest side
 

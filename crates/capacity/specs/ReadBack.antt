@@ -10,9 +10,9 @@ use Rattle.bits.specs.Numbers.{done}
 use Rattle.log.specs.declared.Event.{Event}
 use Rattle.log.specs.Entry.{event, eventValues, readEntry}
 use Rattle.machine.specs.declared.Machine.{Machine}
-use Rattle.machine.specs.Run.{packetsOf, reportOf, ranLog}
+use Rattle.machine.specs.Run.{packetsIn, reportOf, ranLog}
 use Rattle.gather.specs.Belongs.{eventBytes}
-use Rattle.gather.specs.Gather.{Outcome, gatherOf, storeOf, readOf, bytesOf}
+use Rattle.gather.specs.Gather.{Outcome, gatherOf, storeOf, readOf, heldBytes}
 use Rattle.gather.specs.Units.{Standing, standing, lastOf, Taken}
 use Rattle.writer.specs.declared.Route.{Route}
 use Rattle.writer.specs.declared.Unit.{Unit}
@@ -79,10 +79,10 @@ pub record ReadBack (r : Route) (u : Unit) (payload : List ℕ) (count : ℕ) (b
   pub segment-of : Segment
   pub one-begin : segments (eventsAdded m bytes log) ≡ segment-of ∷ []
   pub header : HeaderRead u (length payload) (eventBytes (packetAt (m .taken) bytes (segment-of .first)) (segment-of .first))
-  pub packets-read : PacketsRead true (r .pid) (r .counter) (9 + dataOf u + length payload) (packetsOf bytes)
+  pub packets-read : PacketsRead true (r .pid) (r .counter) (9 + dataOf u + length payload) (packetsIn bytes)
   -- `gather` takes every event, and the bytes read out after the last are the payload
   pub gathered : All Taken (callNumbers (m .taken) bytes t (eventsAdded m bytes log))
   pub held : let s = afterCalls (m .taken) bytes t (eventsAdded m bytes log) in
       readOf (s .gathering) (packetAt (m .taken) bytes (lastOf none (eventsAdded m bytes log))) (s .store) ≡ done
   pub read-out : let s = afterCalls (m .taken) bytes t (eventsAdded m bytes log) in
-      bytesOf (s .gathering) (packetAt (m .taken) bytes (lastOf none (eventsAdded m bytes log))) (s .store) ≡ payload
+      heldBytes (s .gathering) (packetAt (m .taken) bytes (lastOf none (eventsAdded m bytes log))) (s .store) ≡ payload

@@ -1,4 +1,4 @@
--- The walk of `step` and `run` of src/lent_state.rt, once: a machine is copied into a local, which is lent to `step_lent` or `run_lent`,
+-- The walk of `step` and `run` of src/lent_state.rt, once: a machine is copied into a local, which is lent to `step_in_place` or `run_in_place`,
 -- and is given back beside the answer. They promise nothing: that they are safe and end is what is shown.
 --     Form      what a function of the form calls and returns
 --     the-fn    the MIR of such a function, at the name of what it calls: each one's `code.function` computes to it
@@ -54,7 +54,7 @@ use denote.Signature.{plain}
 use Rattle.machine.specs.declared.Machine.{Machine}
 use Rattle.machine.proofs.Machine as T
 use Rattle.machine.proofs.Machine.Laws as T′
-use Rattle.lent.proofs.Thin.{Told, self as lent, self-clauses as lent-clauses}
+use Rattle.in_place.proofs.Thin.{Promised, self as lent, self-clauses as lent-clauses}
 use Rattle.examples.proofs.Object.{silent}
 
 abbrev mach : Machine → Val
@@ -68,7 +68,7 @@ pub record Form : Type 2 where
   pub tells : Tells R (Is R) (λ r. val r ∷ [])
   pub typed : {M : Type 1} (𝓤 : URA M) (H : Heap 𝓤) (A : Atoms 𝓤) → Given 𝓤 H A → (r : R .Denot) (v : Val) → Is R r (v ∷ [])
       → Holds (hasTy mir v) × WT v
-  pub told : Told (R .Denot)
+  pub told : Promised (R .Denot)
   pub D : Declared
   pub L : LL.Laws D
   pub plains : Plains (fields D)

@@ -51,7 +51,7 @@ fn so_far<'a>(g: Gathering, packet: &'a [u8], store: &'a [u8]) {
 // ---- calls
 
 fn take(g: Gathering, packet: &[u8], e: Event, store: &mut [u8]) -> Gathering {
-    show::words(b"gather_lent");
+    show::words(b"gather_in_place");
     machines::event(e);
     show::comma();
     let s = lent_state::gather(g, packet, e, store);

@@ -9,7 +9,7 @@ use machine::Stepped;
 
 pub fn step(m: Machine, packet: &[u8], log: &mut [u8]) -> Stepped {
     let mut own = m;
-    let verdict = lent::step_lent(&mut own, packet, log);
+    let verdict = in_place::step_in_place(&mut own, packet, log);
     Stepped {
         verdict,
         machine: own,
@@ -24,7 +24,7 @@ pub struct Ran {
 
 pub fn run(m: Machine, bytes: &[u8], log: &mut [u8]) -> Ran {
     let mut own = m;
-    let report = lent::run_lent(&mut own, bytes, log);
+    let report = in_place::run_in_place(&mut own, bytes, log);
     Ran {
         report,
         machine: own,
@@ -33,7 +33,7 @@ pub fn run(m: Machine, bytes: &[u8], log: &mut [u8]) -> Ran {
 
 pub fn gather(g: Gathering, packet: &[u8], event: Event, store: &mut [u8]) -> Gathered {
     let mut own = g;
-    let verdict = lent::gather_lent(&mut own, packet, event, store);
+    let verdict = in_place::gather_in_place(&mut own, packet, event, store);
     Gathered {
         verdict,
         gathering: own,

@@ -113,7 +113,7 @@ fn all(call: &[u8], m: Machine, bytes: &[u8]) {
 fn cut_short(stream: &[u8]) {
     let mut bytes = [0u8; 376];
     copy_at(packets::packet(stream, 0), &mut bytes, 0);
-    all(b"run_lent no_sync", Machine::new(), &bytes);
+    all(b"run_in_place no_sync", Machine::new(), &bytes);
 }
 
 // A state that is refused: no entry begins at a place of 3.
@@ -127,17 +127,17 @@ fn between_entries() -> Machine {
 }
 
 pub fn run(stream: &[u8]) {
-    steps(b"step_lent", Machine::new(), stream);
-    steps(b"step_lent between_entries", between_entries(), stream);
-    all(b"run_lent", Machine::new(), packets::three(stream));
+    steps(b"step_in_place", Machine::new(), stream);
+    steps(b"step_in_place between_entries", between_entries(), stream);
+    all(b"run_in_place", Machine::new(), packets::three(stream));
     cut_short(stream);
     all(
-        b"run_lent between_entries 187_bytes",
+        b"run_in_place between_entries 187_bytes",
         between_entries(),
         part(stream, 0, 187),
     );
     all(
-        b"run_lent between_entries no_bytes",
+        b"run_in_place between_entries no_bytes",
         between_entries(),
         part(stream, 0, 0),
     );

@@ -24,8 +24,8 @@ use Rattle.gather.specs.declared.Gathering.{Gathering}
 use Rattle.gather.specs.declared.HeldRead.{HeldRead}
 use Rattle.gather.proofs.HeldRead.{the-type}
 use Rattle.gather.specs.Belongs.{eventBytes, ownPlace, ownBytes}
-use Rattle.gather.specs.Gather.{gathering, fresh, judged, eventGood, inPacket, stateGood, kept, added, next, numberOf, Outcome}
-use Rattle.gather.specs.Gather.{outcome, gatherOf, storeOf, givenHeld, readOf, lying, bytesOf, Possible, moved}
+use Rattle.gather.specs.Gather.{gathering, emptied, judged, eventGood, inPacket, stateGood, kept, added, next, numberOf, Outcome}
+use Rattle.gather.specs.Gather.{outcome, gatherOf, storeOf, givenHeld, readOf, lying, heldBytes, CallStands, moved}
 
 -- ---- which bytes belong to a unit
 
@@ -145,12 +145,12 @@ module _ (g : Gathering) (p s : List ℕ) where
   unfolding readOf
   read-done h k e = sym (judged-in p _ 0 h k e)
 
-  pub bytes-refused : (readOf g p s ≡ 0 → ⊥) → [] ≡ bytesOf g p s
-  unfolding bytesOf
+  pub bytes-refused : (readOf g p s ≡ 0 → ⊥) → [] ≡ heldBytes g p s
+  unfolding heldBytes
   bytes-refused h = simp (ne-eqb (readOf g p s) 0 h)
 
-  pub bytes-are : (l : Lies) (r : List ℕ) → readOf g p s ≡ 0 → g .lies ≡ l → r ≡ lying l (g .count) p s → r ≡ bytesOf g p s
-  unfolding bytesOf
+  pub bytes-are : (l : Lies) (r : List ℕ) → readOf g p s ≡ 0 → g .lies ≡ l → r ≡ lying l (g .count) p s → r ≡ heldBytes g p s
+  unfolding heldBytes
   bytes-are l r z e h = simp (eq-eqb (readOf g p s) 0 z, e) h
 
 pub held-refusal : (r : HeldRead) → OneOf (1 ∷ 2 ∷ 3 ∷ []) (tagOf the-type r) → givenHeld r ≡ 0 → ⊥
@@ -178,7 +178,7 @@ module _ (g : Gathering) (k n a : ℕ) where
   unfolding moved
   moved-end e = simp e
 
-  pub moved-break : (k ≡ 1 → ⊥) × (k ≡ 2 → ⊥) × (k ≡ 3 → ⊥) × (k ≡ 4 → ⊥) → fresh ≡ moved g k n a
+  pub moved-break : (k ≡ 1 → ⊥) × (k ≡ 2 → ⊥) × (k ≡ 3 → ⊥) × (k ≡ 4 → ⊥) → emptied ≡ moved g k n a
   unfolding moved
   moved-break h = simp (ne-eqb k 1 (h .0), ne-eqb k 2 (h .1), ne-eqb k 3 (h .2), ne-eqb k 4 (h .3))
 
@@ -322,9 +322,9 @@ module _ (g : Gathering) (p : List ℕ) (e : Event) (s : List ℕ) where
 
       go : (t₁ t₂ : Bool) → eqb (e .kind) 2 ≡ t₂ → (t₃ : Bool) → eqb (e .kind) 3 ≡ t₃ → (t₄ : Bool) → eqb (e .kind) 4 ≡ t₄
           → pick t₁ g (pick t₂ (gathering true (kept g e + m) (Packet a))
-          (pick t₃ (gathering (g .opened) (kept g e + m) Store) (pick t₄ (gathering false (kept g e + m) Store) fresh)))
+          (pick t₃ (gathering (g .opened) (kept g e + m) Store) (pick t₄ (gathering false (kept g e + m) Store) emptied)))
           ≡ pick t₁ g (pick t₂ (gathering true m (Packet (e .place + ownPlace (eventBytes p e))))
-          (pick t₃ (gathering (g .opened) (g .count + m) Store) (pick t₄ (gathering false (g .count) Store) fresh)))
+          (pick t₃ (gathering (g .opened) (g .count + m) Store) (pick t₄ (gathering false (g .count) Store) emptied)))
       go true t₂ f₂ t₃ f₃ t₄ f₄ = refl
       go false true f₂ t₃ f₃ t₄ f₄ =
           let k : e .kind ≡ 2 = eqb-true (e .kind) 2 f₂ in
@@ -340,7 +340,7 @@ module _ (g : Gathering) (p : List ℕ) (e : Event) (s : List ℕ) where
           rw c
       go false false f₂ false f₃ false f₄ = refl
 
-  module _ (h : Possible g p e s) where
+  module _ (h : CallStands g p e s) where
     good : pick (eventGood e) (stateGood g (length s)) false ≡ true
     good = rw (h .2, h .3)
 
@@ -355,7 +355,7 @@ module _ (g : Gathering) (p : List ℕ) (e : Event) (s : List ℕ) where
     pub kept-inside : kept g e ≤ length s
     kept-inside = omega (arith, kept-least g e, state-inside g (length s) (h .3) .0)
 
-    pub full : length s < kept g e + length (added g p e) → Meets g p e s (outcome 20 fresh) s
+    pub full : length s < kept g e + length (added g p e) → Meets g p e s (outcome 20 emptied) s
     unfolding gatherOf storeOf
     full k = simp (number-full k) (refl, refl)
 
@@ -365,7 +365,7 @@ module _ (g : Gathering) (p : List ℕ) (e : Event) (s : List ℕ) where
   taken g′ s′ z f k = simp z (ap (outcome 0) f, k)
 
   -- the same as the code has it: an event that adds nothing
-  pub apply-none : Possible g p e s → (e .kind ≡ 2 → ⊥) → [] ≡ added g p e → (o : Outcome) (g′ : Gathering) → o ≡ outcome 0 g′
+  pub apply-none : CallStands g p e s → (e .kind ≡ 2 → ⊥) → [] ≡ added g p e → (o : Outcome) (g′ : Gathering) → o ≡ outcome 0 g′
       → g′ ≡ moved g (e .kind) (g .count) 0
       → Meets g p e s o s
   apply-none h b j o g′ y m =
@@ -376,7 +376,7 @@ module _ (g : Gathering) (p : List ℕ) (e : Event) (s : List ℕ) where
       (y ∙ t .0, t .1)
 
   -- bytes that are kept and a part that is added, where there is room for it
-  module _ (h : Possible g p e s) (k a n : ℕ) (d : Adds g p e k a n) (xs s′ : List ℕ) (x : xs ≡ partAt a n p) (b : Bool)
+  module _ (h : CallStands g p e s) (k a n : ℕ) (d : Adds g p e k a n) (xs s′ : List ℕ) (x : xs ≡ partAt a n p) (b : Bool)
       (r : (b ≡ leb (k + length xs) (length s)) × (s′ ≡ placedAt s k xs)) where
     part-size : length xs ≡ n
     part-size = ap length x ∙ part-length a n p (omega arith)
@@ -387,7 +387,7 @@ module _ (g : Gathering) (p : List ℕ) (e : Event) (s : List ℕ) where
     pub room : b ≡ true → k + n ≤ length s
     room z = omega (arith, part-size, leb-true (k + length xs) (length s) (sym (r .0) ∙ z))
 
-    pub apply-full : (o : Outcome) → o ≡ outcome 20 fresh → b ≡ false → Meets g p e s o s′
+    pub apply-full : (o : Outcome) → o ≡ outcome 20 emptied → b ≡ false → Meets g p e s o s′
     apply-full o i z =
         let t : length s < k + length xs = leb-false (k + length xs) (length s) (sym (r .0) ∙ z) in
         let m = full h (omega (arith, added-size, part-size)) in

@@ -14,14 +14,14 @@ use Rattle.log.specs.declared.Event.{Event}
 use Rattle.log.specs.Entry.{event}
 use Rattle.machine.specs.declared.Phase.{Phase}
 use Rattle.machine.specs.declared.Phase.the-variants.{Begin, Started, IgnoreRest}
-use Rattle.machine.specs.Events.{State, startFlag, headAccepted, continuous, settled, broken, opened, begun, continued, eventsOf}
+use Rattle.machine.specs.Events.{State, startFlag, headAccepted, continuous, settled, broken, atStart, begun, continued, eventsOf}
 use Rattle.machine.specs.Events.{phaseAfter, next, run}
 use Rattle.machine.proofs.Laws.{payload-below}
 use Rattle.gather.specs.declared.Lies.the-variants.{Store}
-use Rattle.gather.specs.Gather.{gathering, fresh}
+use Rattle.gather.specs.Gather.{gathering, emptied}
 use Rattle.gather.specs.Units.{Standing, called, gatherAll, answers, readAt, unitBytes}
 use Rattle.machine.specs.Run.{IsPacket}
-use Rattle.gather.specs.Units.{Inside, Good, Kind, Known, NoBegin, Quiet, Some, Taken}
+use Rattle.gather.specs.Units.{Inside, GatheringStands, Kind, Known, NoBegin, Quiet, Some, Taken}
 use Rattle.gather.proofs.Theorems.{gather-append, gathered, break-cuts, none-read, stays-good, all-good}
 
 -- ---- the events of a run: each of a known kind, of a packet that is there, with a part that lies in it
@@ -66,7 +66,7 @@ module _ (n i : ℕ) (p : List ℕ) (b : i < n) where
       nested (Sound n) (payloadThere p) true (event 3 i a (188 - a)) (λ f. omega (arith, payload-below p f))
   sound-continued IgnoreRest = tt
 
-  sound-opened : (ph : Phase) → All (Sound n) (opened ph i)
+  sound-opened : (ph : Phase) → All (Sound n) (atStart ph i)
   sound-opened Begin = (omega arith, tt)
   sound-opened Started = (omega arith, tt)
   sound-opened IgnoreRest = tt
@@ -75,8 +75,8 @@ module _ (n i : ℕ) (p : List ℕ) (b : i < n) where
   sound-broken true = tt
   sound-broken false = (omega arith, tt)
 
-  sound-rest : (s : Bool) (ph : Phase) → All (Sound n) (pick s (opened ph i ++ begun i p) (continued ph i p))
-  sound-rest true ph = all-append (Sound n) (opened ph i) (begun i p) (sound-opened ph) sound-begun
+  sound-rest : (s : Bool) (ph : Phase) → All (Sound n) (pick s (atStart ph i ++ begun i p) (continued ph i p))
+  sound-rest true ph = all-append (Sound n) (atStart ph i) (begun i p) (sound-opened ph) sound-begun
   sound-rest false ph = sound-continued ph
 
   sound-events : (s : State) → All (Sound n) (eventsOf i s p)
@@ -105,7 +105,7 @@ Begun (e ∷ es) = (Kind 2 e → Orderly es) × Begun es
 
 -- from the phase Started on
 orderly-events : (c s : Bool) (i : ℕ) (p : List ℕ) (r : List Event) → (c ≡ true → s ≡ false → Orderly r)
-    → Orderly ((broken c i ++ pick s (opened (settled c Started) i ++ begun i p) (continued (settled c Started) i p)) ++ r)
+    → Orderly ((broken c i ++ pick s (atStart (settled c Started) i ++ begun i p) (continued (settled c Started) i p)) ++ r)
 unfolding continued
 orderly-events false s i p r h = inr (inl refl)
 orderly-events true true i p r h = inl refl
@@ -116,7 +116,7 @@ orderly-events true false i p r h = go (payloadThere p)
     go false = h refl refl
 
 orderly-from : (c s : Bool) (ph : Phase) (i : ℕ) (p : List ℕ) (r : List Event) → ph ≡ Started → (c ≡ true → s ≡ false → Orderly r)
-    → Orderly ((broken c i ++ pick s (opened (settled c ph) i ++ begun i p) (continued (settled c ph) i p)) ++ r)
+    → Orderly ((broken c i ++ pick s (atStart (settled c ph) i ++ begun i p) (continued (settled c ph) i p)) ++ r)
 orderly-from c s ph i p r e h = rw e (orderly-events c s i p r h)
 
 phase-stays : (s : State) (p : List ℕ) → s .phase ≡ Started → continuous (s .last) p ≡ true → startFlag p ≡ false
@@ -149,7 +149,7 @@ unfolding NotTwo
 not-broken true i = tt
 not-broken false i = (λ z. omega arith, tt)
 
-not-opened : (ph : Phase) (i : ℕ) → All NotTwo (opened ph i)
+not-opened : (ph : Phase) (i : ℕ) → All NotTwo (atStart ph i)
 unfolding NotTwo
 not-opened Begin i = (λ z. omega arith, tt)
 not-opened Started i = (λ z. omega arith, tt)
@@ -171,10 +171,10 @@ begun-begins i p r o k = go (payloadThere p) (headAccepted (drop (contentAt p) p
     go false b = k
 
 begun-events : (c s : Bool) (ph : Phase) (i : ℕ) (p : List ℕ) (r : List Event) → (s ≡ true → Orderly r) → Begun r
-    → Begun ((broken c i ++ pick s (opened ph i ++ begun i p) (continued ph i p)) ++ r)
+    → Begun ((broken c i ++ pick s (atStart ph i ++ begun i p) (continued ph i p)) ++ r)
 begun-events c true ph i p r h k =
-    rw (append-assoc (broken c i) (opened ph i ++ begun i p) r, append-assoc (opened ph i) (begun i p) r)
-    (past (broken c i) _ (not-broken c i) (past (opened ph i) _ (not-opened ph i) (begun-begins i p r (h refl) k)))
+    rw (append-assoc (broken c i) (atStart ph i ++ begun i p) r, append-assoc (atStart ph i) (begun i p) r)
+    (past (broken c i) _ (not-broken c i) (past (atStart ph i) _ (not-opened ph i) (begun-begins i p r (h refl) k)))
 begun-events c false ph i p r h k =
     rw (append-assoc (broken c i) (continued ph i p) r)
     (past (broken c i) _ (not-broken c i) (past (continued ph i p) r (not-continued ph i p) k))
@@ -207,9 +207,9 @@ between i s ps pre mid r b f k q = quiet-orderly mid r q (follows-begin pre (mid
 
 module _ (ps : List (List ℕ)) (all : All IsPacket ps) where
   -- a break among the events leaves nothing
-  cut : (t : Standing) (mid : List Event) (e : Event) → Good t → Some (Kind 5) mid
+  cut : (t : Standing) (mid : List Event) (e : Event) → GatheringStands t → Some (Kind 5) mid
       → All Quiet mid → All Known mid → All (Inside ps) mid → Kind 4 e → Inside ps e
-      → gatherAll ps t (mid ++ (e ∷ [])) .gathering ≡ fresh
+      → gatherAll ps t (mid ++ (e ∷ [])) .gathering ≡ emptied
   cut t [] e ok h q k i ke ie = absurd h
   cut t (x ∷ mid) e ok h q k i ke ie =
       let g = stays-good ps all t x (k .0) (i .0) ok .0 in
@@ -219,7 +219,7 @@ module _ (ps : List (List ℕ)) (all : All IsPacket ps) where
       no-begins [] q k = tt
       no-begins (y ∷ es) q k = ((k .0, q .0 .0), no-begins es (q .1) (k .1))
 
-      here : Kind 5 x → gatherAll ps t (x ∷ (mid ++ (e ∷ []))) .gathering ≡ fresh
+      here : Kind 5 x → gatherAll ps t (x ∷ (mid ++ (e ∷ []))) .gathering ≡ emptied
       here z =
           let ns = all-append NoBegin mid (e ∷ []) (no-begins mid (q .1) (k .1)) ((omega arith, λ y. omega arith), tt) in
           let is = all-append (Inside ps) mid (e ∷ []) (i .1) (ie, tt) in
@@ -227,7 +227,7 @@ module _ (ps : List (List ℕ)) (all : All IsPacket ps) where
 
   -- AFTER AN END the unit is closed and its bytes are exactly the header's payload followed by the continues since the begin, and none
   -- across a break: whatever the machine's state, whatever was gathered before, and whatever of it was refused by 20
-  pub unit-of-run : (s : State) (t : Standing) → Good t → (pre mid r : List Event) (b e : Event)
+  pub unit-of-run : (s : State) (t : Standing) → GatheringStands t → (pre mid r : List Event) (b e : Event)
       → run 0 s ps ≡ pre ++ (b ∷ (mid ++ (e ∷ r))) → Kind 2 b → All Quiet mid → Kind 4 e
       → (All (Kind 3) mid → length (unitBytes ps b mid) ≤ length (t .store))
       → (All (Kind 3) mid
@@ -235,7 +235,7 @@ module _ (ps : List (List ℕ)) (all : All IsPacket ps) where
       × (gatherAll ps t (pre ++ (b ∷ (mid ++ (e ∷ [])))) .gathering ≡ gathering false (length (unitBytes ps b mid)) Store)
       × (readAt ps (gatherAll ps t (pre ++ (b ∷ (mid ++ (e ∷ []))))) e ≡ unitBytes ps b mid))
       ⊎ (Some (Kind 5) mid
-      × (gatherAll ps t (pre ++ (b ∷ (mid ++ (e ∷ [])))) .gathering ≡ fresh)
+      × (gatherAll ps t (pre ++ (b ∷ (mid ++ (e ∷ [])))) .gathering ≡ emptied)
       × (readAt ps (gatherAll ps t (pre ++ (b ∷ (mid ++ (e ∷ []))))) e ≡ []))
   unit-of-run s t ok pre mid r b e f kb q ke room =
       ⊎-elim (λ k. let w = whole k in inl (k, w .0, w .1, w .2)) (λ x. let n = none x in inr (x, n .0, n .1))
@@ -265,7 +265,7 @@ module _ (ps : List (List ℕ)) (all : All IsPacket ps) where
       t₁ : Standing
       t₁ = gatherAll ps t pre
 
-      good : Good t₁ × (length (t₁ .store) ≡ length (t .store))
+      good : GatheringStands t₁ × (length (t₁ .store) ≡ length (t .store))
       good = all-good ps all t pre (known pre before) (inside pre before) ok
 
       joined : gatherAll ps t (pre ++ (b ∷ (mid ++ (e ∷ [])))) ≡ gatherAll ps t₁ (b ∷ (mid ++ (e ∷ [])))
@@ -281,7 +281,7 @@ module _ (ps : List (List ℕ)) (all : All IsPacket ps) where
           (u .0, ap (λ (z : Standing). z .gathering) joined ∙ u .1, ap (λ (z : Standing). readAt ps z e) joined ∙ u .2)
 
       none : Some (Kind 5) mid
-          → (gatherAll ps t (pre ++ (b ∷ (mid ++ (e ∷ [])))) .gathering ≡ fresh)
+          → (gatherAll ps t (pre ++ (b ∷ (mid ++ (e ∷ [])))) .gathering ≡ emptied)
           × (readAt ps (gatherAll ps t (pre ++ (b ∷ (mid ++ (e ∷ []))))) e ≡ [])
       none x =
           let t₂ = called ps t₁ b in

@@ -21,12 +21,12 @@ use Rattle.gather.specs.declared.Gathered.{Gathered}
 use Rattle.gather.specs.declared.HeldRead.{HeldRead}
 use Rattle.gather.specs.declared.Verdict.{Verdict}
 use Rattle.gather.specs.Belongs.{eventBytes, ownPlace, ownBytes}
-use Rattle.gather.specs.Gather.{gathering, fresh, eventGood, inPacket, stateGood, kept, added, next, numberOf, Outcome}
-use Rattle.gather.specs.Gather.{verdictNumber, given, gatherOf, storeOf, givenHeld, bytesOf, Possible}
+use Rattle.gather.specs.Gather.{gathering, emptied, eventGood, inPacket, stateGood, kept, added, next, numberOf, Outcome}
+use Rattle.gather.specs.Gather.{verdictNumber, given, gatherOf, storeOf, givenHeld, heldBytes, CallStands}
 use Rattle.gather.specs.Units.{Standing, standing, packetOf, answered, called, gatherAll, answers, readAt, bytesAt, bytesAtAll}
 use Rattle.gather.specs.Units.{unitBytes, lastOf}
 use Rattle.machine.specs.Run.{IsPacket}
-use Rattle.gather.specs.Units.{Inside, Good, Kind, Known, NoBegin, Taken, Open}
+use Rattle.gather.specs.Units.{Inside, GatheringStands, Kind, Known, NoBegin, Taken, Open}
 use Rattle.gather.proofs.Laws.{part-tested, state-tested, state-inside, read-done, bytes-are, event-part, added-begin, added-open}
 use Rattle.gather.proofs.Laws.{added-closed, added-none, kept-begin, kept-other, number-done, full, taken}
 
@@ -71,10 +71,10 @@ pub one-held : (n : ℕ) (a b : HeldRead) → givenHeld a ≡ n → givenHeld b 
 one-held = one-answer givenHeld heldBack heldBack-given
 
 -- the bytes so far are determined as a list; their address is not, where a part is empty or both slices hold the same bytes
-pub one-bytes : (g : Gathering) (p s a b : List ℕ) → a ≡ bytesOf g p s → b ≡ bytesOf g p s → a ≡ b
+pub one-bytes : (g : Gathering) (p s a b : List ℕ) → a ≡ heldBytes g p s → b ≡ heldBytes g p s → a ≡ b
 one-bytes g p s a b h k = h ∙ sym k
 
-pub one-new : (a b : Gathering) → a ≡ fresh → b ≡ fresh → a ≡ b
+pub one-new : (a b : Gathering) → a ≡ emptied → b ≡ emptied → a ≡ b
 one-new a b h k = h ∙ sym k
 
 -- ---- in the store only added bytes change, and its length never does
@@ -159,8 +159,8 @@ event-good e k h = sym (part-tested e k) ∙ le-leb (e .place + e .length) 188 h
 state-good : (g : Gathering) (n : ℕ) → g .count ≤ n → inPacket (g .lies) (g .count) ≡ true → stateGood g n ≡ true
 state-good g n h k = sym (state-tested g n true h (sym k))
 
-module _ (ps : List (List ℕ)) (all : All IsPacket ps) (t : Standing) (e : Event) (k : Known e) (i : Inside ps e) (ok : Good t) where
-  possible : Possible (t .gathering) (packetOf ps e) e (t .store)
+module _ (ps : List (List ℕ)) (all : All IsPacket ps) (t : Standing) (e : Event) (k : Known e) (i : Inside ps e) (ok : GatheringStands t) where
+  possible : CallStands (t .gathering) (packetOf ps e) e (t .store)
   possible = let q = packet-there ps (e .index) all (i .0) in (q .0, q .1, event-good e k (i .1), ok)
 
   -- where the store has room, it is taken
@@ -190,13 +190,13 @@ module _ (g : Gathering) (p : List ℕ) (e : Event) where
   unfolding next
   next-end k = simp k
 
-  next-break : Kind 5 e → next g p e ≡ fresh
+  next-break : Kind 5 e → next g p e ≡ emptied
   unfolding next
   next-break k = simp k
 
 -- reading out of the store
 read-store : (p s u : List ℕ) (o : Bool) → IsPacket p → length u ≤ length s → take (length u) s ≡ u
-    → u ≡ bytesOf (gathering o (length u) Store) p s
+    → u ≡ heldBytes (gathering o (length u) Store) p s
 read-store p s u o q h f =
     let g = gathering o (length u) Store in
     let z = read-done g p s (q .0) (q .1) (state-good g (length s) h refl) in
@@ -217,7 +217,7 @@ own-in-packet p e l h =
 
 module _ (ps : List (List ℕ)) (all : All IsPacket ps) (t : Standing) (e : Event) (i : Inside ps e) where
   -- a begin opens a unit anew, whatever stood before; its bytes are read out of its packet
-  pub begin-opens : Kind 2 e → Good t → length (ownBytes (bytesAt ps e)) ≤ length (t .store)
+  pub begin-opens : Kind 2 e → GatheringStands t → length (ownBytes (bytesAt ps e)) ≤ length (t .store)
       → (answered ps t e .number ≡ 0)
       × Open (ownBytes (bytesAt ps e)) (length (t .store)) (called ps t e)
       × (called ps t e .gathering .lies ≡ Packet (e .place + ownPlace (bytesAt ps e)))
@@ -237,7 +237,7 @@ module _ (ps : List (List ℕ)) (all : All IsPacket ps) (t : Standing) (e : Even
       let l : length s ≡ length (t .store) = length-placed (t .store) 0 u in
       let z : 0 + length u ≡ length u = omega arith in
       let v : take (length u) s ≡ u = rw z at (placed-take (t .store) 0 u (omega arith)) in
-      let y : Good (standing g s) = state-good g _ (omega arith) (le-leb (a + length u) 188 (o .0)) in (
+      let y : GatheringStands (standing g s) = state-good g _ (omega arith) (le-leb (a + length u) 188 (o .0)) in (
         c .0,
         rw f (record { opened = refl; count = refl; room = l; stored = v; good = y }),
         ap (λ (x : Standing). x .gathering .lies) f,
@@ -265,7 +265,7 @@ module _ (ps : List (List ℕ)) (all : All IsPacket ps) (t : Standing) (e : Even
       let l : length s ≡ length (t .store) = length-placed (t .store) (length u) x in
       let b : take (length u + length x) s ≡ u ++ x = placed-take (t .store) (length u) x r ∙ ap (λ (z : List ℕ). z ++ x) (w .stored) in
       let v : take (length (u ++ x)) s ≡ u ++ x = rw (← m) b in
-      let y : Good (standing g s) = state-good g _ (omega arith) refl in (
+      let y : GatheringStands (standing g s) = state-good g _ (omega arith) refl in (
         c .0,
         rw f (record { opened = refl; count = refl; room = l ∙ w .room; stored = v; good = y }),
         ap (λ (z : Standing). z .gathering .lies) f,
@@ -273,7 +273,7 @@ module _ (ps : List (List ℕ)) (all : All IsPacket ps) (t : Standing) (e : Even
       )
 
   -- what adds nothing leaves the store
-  nothing-added : Known e → Good t → (e .kind ≡ 2 → ⊥) → [] ≡ added (t .gathering) (packetOf ps e) e
+  nothing-added : Known e → GatheringStands t → (e .kind ≡ 2 → ⊥) → [] ≡ added (t .gathering) (packetOf ps e) e
       → (answered ps t e .number ≡ 0) × (called ps t e ≡ standing (next (t .gathering) (packetOf ps e) e) (t .store))
   nothing-added k ok b j =
       let d : kept (t .gathering) e ≡ t .gathering .count = kept-other (t .gathering) e b in
@@ -282,7 +282,7 @@ module _ (ps : List (List ℕ)) (all : All IsPacket ps) (t : Standing) (e : Even
       (c .0, c .1 ∙ rw (d, ← j, ← placed-none (t .store) (t .gathering .count)))
 
   -- a start of the stream changes nothing
-  pub start-leaves : Kind 1 e → Good t → (answered ps t e .number ≡ 0) × (called ps t e ≡ t)
+  pub start-leaves : Kind 1 e → GatheringStands t → (answered ps t e .number ≡ 0) × (called ps t e ≡ t)
   start-leaves k ok =
       let p = packetOf ps e in
       let j = added-none (t .gathering) p e (λ z. omega arith) (λ z. omega arith) in
@@ -290,7 +290,7 @@ module _ (ps : List (List ℕ)) (all : All IsPacket ps) (t : Standing) (e : Even
       (c .0, c .1 ∙ rw (next-start (t .gathering) p e k))
 
   -- an end closes the unit and keeps its bytes
-  pub end-keeps : Kind 4 e → Good t
+  pub end-keeps : Kind 4 e → GatheringStands t
       → (answered ps t e .number ≡ 0) × (called ps t e ≡ standing (gathering false (t .gathering .count) Store) (t .store))
   end-keeps k ok =
       let p = packetOf ps e in
@@ -299,7 +299,7 @@ module _ (ps : List (List ℕ)) (all : All IsPacket ps) (t : Standing) (e : Even
       (c .0, c .1 ∙ rw (next-end (t .gathering) p e k))
 
   -- a break empties and closes
-  pub break-empties : Kind 5 e → Good t → (answered ps t e .number ≡ 0) × (called ps t e ≡ standing fresh (t .store))
+  pub break-empties : Kind 5 e → GatheringStands t → (answered ps t e .number ≡ 0) × (called ps t e ≡ standing emptied (t .store))
   break-empties k ok =
       let p = packetOf ps e in
       let j = added-none (t .gathering) p e (λ z. omega arith) (λ z. omega arith) in
@@ -332,7 +332,7 @@ module _ (ps : List (List ℕ)) (all : All IsPacket ps) where
       let f = append-assoc u x (bytesAtAll ps cs) in
       ((a .0, d .0), rw (← f) (d .1), d .2 ∙ f)
 
-  module _ (t : Standing) (ok : Good t) (b : Event) (cs : List Event) (kb : Kind 2 b) (ib : Inside ps b) (kc : All (Kind 3) cs)
+  module _ (t : Standing) (ok : GatheringStands t) (b : Event) (cs : List Event) (kb : Kind 2 b) (ib : Inside ps b) (kc : All (Kind 3) cs)
       (ic : All (Inside ps) cs) (room : length (unitBytes ps b cs) ≤ length (t .store)) where
     -- before its end it is open; its bytes so far stand in the store, and are what is read out with the packet of the last event
     pub gathering-open : All Taken (answers ps t (b ∷ cs))
@@ -369,46 +369,46 @@ module _ (ps : List (List ℕ)) (all : All IsPacket ps) where
 -- ---- after a break nothing is added until a begin
 
 module _ (p : List ℕ) (e : Event) where
-  added-fresh : (e .kind ≡ 2 → ⊥) → [] ≡ added fresh p e
+  added-fresh : (e .kind ≡ 2 → ⊥) → [] ≡ added emptied p e
   added-fresh b = go (eqb (e .kind) 3) refl
     where
-      go : (t : Bool) → eqb (e .kind) 3 ≡ t → [] ≡ added fresh p e
-      go true f = added-closed fresh p e (eqb-true (e .kind) 3 f) refl
-      go false f = added-none fresh p e b (eqb-false (e .kind) 3 f)
+      go : (t : Bool) → eqb (e .kind) 3 ≡ t → [] ≡ added emptied p e
+      go true f = added-closed emptied p e (eqb-true (e .kind) 3 f) refl
+      go false f = added-none emptied p e b (eqb-false (e .kind) 3 f)
 
-  next-fresh : (e .kind ≡ 2 → ⊥) → next fresh p e ≡ fresh
+  next-fresh : (e .kind ≡ 2 → ⊥) → next emptied p e ≡ emptied
   unfolding next
   next-fresh b = rw (ne-eqb (e .kind) 2 b, ← added-fresh b) (go (eqb (e .kind) 1) (eqb (e .kind) 3) (eqb (e .kind) 4))
     where
-      go : (t₁ t₃ t₄ : Bool) → pick t₁ fresh (pick t₃ (gathering false (0 + 0) Store) (pick t₄ (gathering false 0 Store) fresh)) ≡ fresh
+      go : (t₁ t₃ t₄ : Bool) → pick t₁ emptied (pick t₃ (gathering false (0 + 0) Store) (pick t₄ (gathering false 0 Store) emptied)) ≡ emptied
       go true t₃ t₄ = refl
       go false true t₄ = refl
       go false false true = refl
       go false false false = refl
 
-fresh-good : (s : List ℕ) → Good (standing fresh s)
-fresh-good s = state-good fresh (length s) (omega arith) refl
+fresh-good : (s : List ℕ) → GatheringStands (standing emptied s)
+fresh-good s = state-good emptied (length s) (omega arith) refl
 
 module _ (ps : List (List ℕ)) (all : All IsPacket ps) where
   pub closed-stays : (s : List ℕ) (es : List Event) → All NoBegin es → All (Inside ps) es
-      → All Taken (answers ps (standing fresh s) es) × (gatherAll ps (standing fresh s) es ≡ standing fresh s)
+      → All Taken (answers ps (standing emptied s) es) × (gatherAll ps (standing emptied s) es ≡ standing emptied s)
   closed-stays s [] k i = (tt, refl)
   closed-stays s (e ∷ es) k i =
       let j = added-fresh (packetOf ps e) e (k .0 .1) in
-      let a = nothing-added ps all (standing fresh s) e (i .0) (k .0 .0) (fresh-good s) (k .0 .1) j in
-      let f : called ps (standing fresh s) e ≡ standing fresh s = a .1 ∙ rw (next-fresh (packetOf ps e) e (k .0 .1)) in
+      let a = nothing-added ps all (standing emptied s) e (i .0) (k .0 .0) (fresh-good s) (k .0 .1) j in
+      let f : called ps (standing emptied s) e ≡ standing emptied s = a .1 ∙ rw (next-fresh (packetOf ps e) e (k .0 .1)) in
       let b = closed-stays s es (k .1) (i .1) in
       ((a .0, rw f (b .0)), ap (λ (t : Standing). gatherAll ps t es) f ∙ b .1)
 
   -- so the bytes read out after a break are none, whatever came before it
-  pub break-cuts : (t : Standing) (x : Event) (es : List Event) → Good t → Kind 5 x → Inside ps x → All NoBegin es → All (Inside ps) es
-      → All Taken (answers ps t (x ∷ es)) × (gatherAll ps t (x ∷ es) ≡ standing fresh (t .store))
+  pub break-cuts : (t : Standing) (x : Event) (es : List Event) → GatheringStands t → Kind 5 x → Inside ps x → All NoBegin es → All (Inside ps) es
+      → All Taken (answers ps t (x ∷ es)) × (gatherAll ps t (x ∷ es) ≡ standing emptied (t .store))
   break-cuts t x es ok k i kn is =
       let a = break-empties ps all t x i k ok in
       let b = closed-stays (t .store) es kn is in
       ((a .0, rw (a .1) (b .0)), ap (λ (t : Standing). gatherAll ps t es) (a .1) ∙ b .1)
 
-  pub none-read : (s : List ℕ) (e : Event) → Inside ps e → readAt ps (standing fresh s) e ≡ []
+  pub none-read : (s : List ℕ) (e : Event) → Inside ps e → readAt ps (standing emptied s) e ≡ []
   none-read s e i = sym (read-store (packetOf ps e) s [] false (packet-there ps (e .index) all (i .0)) (omega arith) refl)
 
 -- ---- whatever was refused by 20, a state that lies in its store and packet stays such
@@ -437,34 +437,34 @@ next-good g p e n k l h ok r = go (eqb (e .kind) 1) refl (eqb (e .kind) 2) refl 
     go false f₁ false f₂ false f₃ false f₄ =
         let no = eqb-false (e .kind) in
         let q : e .kind ≡ 5 = omega (arith, no 1 f₁, no 2 f₂, no 3 f₃, no 4 f₄) in
-        rw (next-break g p e q) (state-good fresh n (omega arith) refl)
+        rw (next-break g p e q) (state-good emptied n (omega arith) refl)
 
 module _ (ps : List (List ℕ)) (all : All IsPacket ps) where
-  pub stays-good : (t : Standing) (e : Event) → Known e → Inside ps e → Good t
-      → Good (called ps t e) × (length (called ps t e .store) ≡ length (t .store))
+  pub stays-good : (t : Standing) (e : Event) → Known e → Inside ps e → GatheringStands t
+      → GatheringStands (called ps t e) × (length (called ps t e .store) ≡ length (t .store))
   stays-good t e k i ok = go (leb (kept (t .gathering) e + length (added (t .gathering) (packetOf ps e) e)) (length (t .store))) refl
     where
       q : IsPacket (packetOf ps e)
       q = packet-there ps (e .index) all (i .0)
 
-      same : (s : Standing) → called ps t e ≡ s → Good s × (length (s .store) ≡ length (t .store))
-          → Good (called ps t e) × (length (called ps t e .store) ≡ length (t .store))
+      same : (s : Standing) → called ps t e ≡ s → GatheringStands s × (length (s .store) ≡ length (t .store))
+          → GatheringStands (called ps t e) × (length (called ps t e .store) ≡ length (t .store))
       same s f h =
           let room : Standing → ℕ = λ z. length (z .store) in
           (ap (λ (z : Standing). stateGood (z .gathering) (room z)) f ∙ h .0, ap room f ∙ h .1)
 
       go : (b : Bool) → leb (kept (t .gathering) e + length (added (t .gathering) (packetOf ps e) e)) (length (t .store)) ≡ b
-          → Good (called ps t e) × (length (called ps t e .store) ≡ length (t .store))
+          → GatheringStands (called ps t e) × (length (called ps t e .store) ≡ length (t .store))
       go true f =
           let r = leb-true _ _ f in
           let l = length-placed (t .store) (kept (t .gathering) e) (added (t .gathering) (packetOf ps e) e) in
           same _ (accepted ps all t e k i ok r .1) (rw l (next-good (t .gathering) (packetOf ps e) e _ k (q .0) (i .1) ok r), l)
       go false f =
           let r = full (t .gathering) (packetOf ps e) e (t .store) (possible ps all t e k i ok) (leb-false _ _ f) in
-          same (standing fresh (t .store)) (rw (← r .0, ← r .1)) (fresh-good (t .store), refl)
+          same (standing emptied (t .store)) (rw (← r .0, ← r .1)) (fresh-good (t .store), refl)
 
-  pub all-good : (t : Standing) (es : List Event) → All Known es → All (Inside ps) es → Good t
-      → Good (gatherAll ps t es) × (length (gatherAll ps t es .store) ≡ length (t .store))
+  pub all-good : (t : Standing) (es : List Event) → All Known es → All (Inside ps) es → GatheringStands t
+      → GatheringStands (gatherAll ps t es) × (length (gatherAll ps t es .store) ≡ length (t .store))
   all-good t [] k i ok = (ok, refl)
   all-good t (e ∷ es) k i ok =
       let a = stays-good t e (k .0) (i .0) ok in

@@ -21,8 +21,8 @@ abbrev pub gathering : Bool → ℕ → Lies → Gathering
 gathering o n l = record { opened = o; count = n; lies = l }
 
 -- no unit, no bytes: before the first event, after a break and after 20
-abbrev pub fresh : Gathering
-fresh = gathering false 0 Store
+abbrev pub emptied : Gathering
+emptied = gathering false 0 Store
 
 -- ---- what cannot be
 
@@ -70,7 +70,7 @@ next g p e =
     (pick (is beginPacket e) (gathering true (length (added g p e)) (Packet (e .place + ownPlace (eventBytes p e))))
     (pick (is continuePacket e) (gathering (g .opened) (g .count + length (added g p e)) Store)
     (pick (is endPacket e) (gathering false (g .count) Store)
-    fresh)))
+    emptied)))
 
 -- ---- a call
 
@@ -100,7 +100,7 @@ given r = outcome (verdictNumber (r .verdict)) (r .gathering)
 
 -- on 20 the unit counts 0 bytes and is closed; on any other refusal the state stays
 abbrev pub after : ℕ → Gathering → Gathering → Gathering
-after n g′ g = pick (eqb n done) g′ (pick (eqb n storeFull) fresh g)
+after n g′ g = pick (eqb n done) g′ (pick (eqb n storeFull) emptied g)
 
 unfoldable pub gatherOf : Gathering → List ℕ → Event → List ℕ → Outcome
 gatherOf g p e s = outcome (numberOf g p e s) (after (numberOf g p e s) (next g p e) g)
@@ -126,14 +126,14 @@ lying (Packet a) n p s = partAt a n p
 lying Store n p s = partAt 0 n s
 
 -- empty on a refusal
-unfoldable pub bytesOf : Gathering → List ℕ → List ℕ → List ℕ
-bytesOf g p s = pick (eqb (readOf g p s) done) (lying (g .lies) (g .count) p s) []
+unfoldable pub heldBytes : Gathering → List ℕ → List ℕ → List ℕ
+heldBytes g p s = pick (eqb (readOf g p s) done) (lying (g .lies) (g .count) p s) []
 
 -- ---- cited by private functions alone
 
 -- neither 1, 2 nor 14
-abbrev pub Possible : Gathering → List ℕ → Event → List ℕ → Type 0
-Possible g p e s = (length p ≡ 188) × (getD p 0 0 ≡ 0x47) × (eventGood e ≡ true) × (stateGood g (length s) ≡ true)
+abbrev pub CallStands : Gathering → List ℕ → Event → List ℕ → Type 0
+CallStands g p e s = (length p ≡ 188) × (getD p 0 0 ≡ 0x47) × (eventGood e ≡ true) × (stateGood g (length s) ≡ true)
 
 -- the state after an event of a kind, by the unit's bytes with those that are added, and the place in the packet where these stand
 unfoldable pub moved : Gathering → ℕ → ℕ → ℕ → Gathering
@@ -142,4 +142,4 @@ moved g k n a =
     (pick (eqb k beginPacket) (gathering true n (Packet a))
     (pick (eqb k continuePacket) (gathering (g .opened) n Store)
     (pick (eqb k endPacket) (gathering false n Store)
-    fresh)))
+    emptied)))

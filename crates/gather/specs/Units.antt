@@ -10,7 +10,7 @@ use Rattle.log.specs.declared.Event.{Event}
 use Rattle.log.specs.Entry.{beginPacket, endPacket}
 use Rattle.gather.specs.declared.Gathering.{Gathering}
 use Rattle.gather.specs.Belongs.{eventBytes, ownBytes}
-use Rattle.gather.specs.Gather.{stateGood, Outcome, gatherOf, storeOf, bytesOf}
+use Rattle.gather.specs.Gather.{stateGood, Outcome, gatherOf, storeOf, heldBytes}
 
 -- a state, and the bytes of the store that goes with it
 pub record Standing : Type 0 where
@@ -42,7 +42,7 @@ answers ps t (e ∷ es) = answered ps t e .number ∷ answers ps (called ps t e)
 
 -- the bytes so far, read out with the packet of an event
 abbrev pub readAt : List (List ℕ) → Standing → Event → List ℕ
-readAt ps t e = bytesOf (t .gathering) (packetOf ps e) (t .store)
+readAt ps t e = heldBytes (t .gathering) (packetOf ps e) (t .store)
 
 -- THE BYTES OF A UNIT: of its begin those that belong to it, then all of its continues
 abbrev pub bytesAt : List (List ℕ) → Event → List ℕ
@@ -67,8 +67,8 @@ abbrev pub Inside : List (List ℕ) → Event → Type 0
 Inside ps e = (e .index < length ps) × (e .place + e .length ≤ 188)
 
 -- a state whose bytes lie in its store, and in a packet where they lie there: it is not 14
-abbrev pub Good : Standing → Type 0
-Good t = stateGood (t .gathering) (length (t .store)) ≡ true
+abbrev pub GatheringStands : Standing → Type 0
+GatheringStands t = stateGood (t .gathering) (length (t .store)) ≡ true
 
 abbrev pub Kind : ℕ → Event → Type 0
 Kind k e = e .kind ≡ k
@@ -100,4 +100,4 @@ pub record Open (u : List ℕ) (n : ℕ) (t : Standing) : Type 0 where
   pub count : t .gathering .count ≡ length u
   pub room : length (t .store) ≡ n
   pub stored : take (length u) (t .store) ≡ u
-  pub good : Good t
+  pub good : GatheringStands t

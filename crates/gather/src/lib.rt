@@ -8,8 +8,8 @@ ghost use Rattle.bits.specs.Answer.{pick, partAt, placedAt};
 ghost use Rattle.bits.specs.Numbers.{done, storeFull};
 ghost use Rattle.log.specs.Entry.{beginPacket, continuePacket};
 ghost use Rattle.gather.specs.Belongs.{ownPlace, ownBytes};
-ghost use Rattle.gather.specs.Gather.{gathering, fresh, eventGood, inPacket, stateGood, Possible, moved};
-ghost use Rattle.gather.specs.Gather.{outcome, given, gatherOf, storeOf, readOf, givenHeld, bytesOf};
+ghost use Rattle.gather.specs.Gather.{gathering, emptied, eventGood, inPacket, stateGood, CallStands, moved};
+ghost use Rattle.gather.specs.Gather.{outcome, given, gatherOf, storeOf, readOf, givenHeld, heldBytes};
 use bits::part;
 use log::BEGIN_PACKET;
 use log::CONTINUE_PACKET;
@@ -57,7 +57,7 @@ pub enum HeldRead {
 impl Gathering {
     // Before the first event: no unit, no bytes.
     pub fn new() -> Gathering
-        ensures { λ r. ⌜ r ≡ fresh ⌝ }
+        ensures { λ r. ⌜ r ≡ emptied ⌝ }
     {
         Gathering {
             opened: false,
@@ -70,24 +70,24 @@ impl Gathering {
 // ---- which bytes belong to a unit
 
 // A part of a slice, by place and length.
-struct Part {
+struct Extent {
     place: usize,
     length: usize,
 }
 
 // Of the bytes of a begin those that belong to its unit: the payload, and none where the header is refused.
-fn own_part(bytes: &[u8]) -> Part
+fn own_part(bytes: &[u8]) -> Extent
     ensures { λ r. ⌜ (r .place ≡ ownPlace (now (bytes .entry)))
         × (partAt (r .place) (r .length) (now (bytes .entry)) ≡ ownBytes (now (bytes .entry)))
         × (r .place + r .length ≤ length (now (bytes .entry))) ⌝ }
 {
     let PayloadRead::Done { place, length } = pes_header::payload_at(bytes) else {
-        return Part {
+        return Extent {
             place: 0,
             length: 0,
         };
     };
-    Part { place, length }
+    Extent { place, length }
 }
 
 // ---- what cannot be
@@ -195,7 +195,7 @@ fn extends(g: Gathering, kind: u8) -> bool
 
 // On 20 the unit counts no bytes and is closed.
 fn full() -> Gathered
-    ensures { λ r. ⌜ given r ≡ outcome storeFull fresh ⌝ }
+    ensures { λ r. ⌜ given r ≡ outcome storeFull emptied ⌝ }
 {
     Gathered {
         verdict: Verdict::StoreFull,
@@ -215,7 +215,7 @@ fn accepted(gathering: Gathering) -> Gathered
 
 // An event that can be: 20 is what is left to refuse it.
 fn apply(g: Gathering, packet: &[u8], event: Event, store: &mut [u8]) -> Gathered
-    requires { ⌜ Possible g (now packet) event (now store) ⌝ }
+    requires { ⌜ CallStands g (now packet) event (now store) ⌝ }
     ensures { λ r. ⌜ (given r ≡ gatherOf g (now (packet .entry)) event (now (store .entry)))
         × (now (store .exit) ≡ storeOf g (now (packet .entry)) event (now (store .entry))) ⌝ }
 {
@@ -303,7 +303,7 @@ pub fn held(g: Gathering, packet: &[u8], store: &[u8]) -> HeldRead
 
 // The bytes so far: a part of the packet after a begin, otherwise of the store.
 pub fn bytes<'a>(g: Gathering, packet: &'a [u8], store: &'a [u8]) -> &'a [u8]
-    ensures { λ r. ⌜ now r ≡ bytesOf g (now (packet .entry)) (now (store .entry)) ⌝ }
+    ensures { λ r. ⌜ now r ≡ heldBytes g (now (packet .entry)) (now (store .entry)) ⌝ }
 {
     let lies = g.lies;
     let count = g.count;

@@ -1,4 +1,4 @@
-pub mod Told
+pub mod Reports
 pub mod Stamps
 pub mod Clocks
 pub mod Packets

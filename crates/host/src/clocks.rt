@@ -5,7 +5,7 @@ ghost use Rattle.bits.specs.Answer.{answer};
 ghost use Rattle.bits.specs.Numbers.{done};
 ghost use Rattle.control.specs.Clock.{clockValues, readClock, makeClock, clockNumber};
 ghost use Rattle.control.specs.Control.{makeCounter, givenPid, makePid};
-ghost use Rattle.host.specs.Told.{Told};
+ghost use Rattle.host.specs.Reports.{Reports};
 ghost use Rattle.host.specs.Clocks.{sameAnswer, followsAnswer, controlAnswer, scramblingAnswer};
 use crate::numbers::DONE;
 use crate::numbers::OUT_OF_RANGE;
@@ -23,7 +23,7 @@ use control::Scheme;
 use control::TransportScramblingControl;
 
 pub fn tell_clock(c: ClockRef, base: &mut u64, extension: &mut u64) -> u32
-    ensures { λ w. ⌜ Told (answer done (clockValues c)) w (now (base .entry) ∷ now (extension .entry) ∷ [])
+    ensures { λ w. ⌜ Reports (answer done (clockValues c)) w (now (base .entry) ∷ now (extension .entry) ∷ [])
         (now (base .exit) ∷ now (extension .exit) ∷ []) ⌝ }
 {
     *base = c.base();
@@ -34,7 +34,7 @@ pub fn tell_clock(c: ClockRef, base: &mut u64, extension: &mut u64) -> u32
 // ClockRef::from_slice
 #[no_mangle]
 pub extern "C" fn cmv_clock_ref_from_slice(buf: &[u8], base: &mut u64, extension: &mut u64) -> u32
-    ensures { λ w. ⌜ Told (readClock (now (buf .entry))) w (now (base .entry) ∷ now (extension .entry) ∷ [])
+    ensures { λ w. ⌜ Reports (readClock (now (buf .entry))) w (now (base .entry) ∷ now (extension .entry) ∷ [])
         (now (base .exit) ∷ now (extension .exit) ∷ []) ⌝ }
 {
     match ClockRef::from_slice(buf) {
@@ -51,7 +51,7 @@ pub extern "C" fn cmv_clock_ref_from_parts(
     base: &mut u64,
     extension: &mut u64,
 ) -> u32
-    ensures { λ w. ⌜ Told (makeClock b e) w (now (base .entry) ∷ now (extension .entry) ∷ [])
+    ensures { λ w. ⌜ Reports (makeClock b e) w (now (base .entry) ∷ now (extension .entry) ∷ [])
         (now (base .exit) ∷ now (extension .exit) ∷ []) ⌝ }
 {
     match ClockRef::from_parts(b, e) {
@@ -63,7 +63,7 @@ pub extern "C" fn cmv_clock_ref_from_parts(
 // ClockRef::into_u64, of two numbers that are a clock reference
 #[no_mangle]
 pub extern "C" fn cmv_clock_ref_into_u64(base: u64, extension: u16, number: &mut u64) -> u32
-    ensures { λ w. ⌜ Told (clockNumber base extension) w (now (number .entry) ∷ []) (now (number .exit) ∷ []) ⌝ }
+    ensures { λ w. ⌜ Reports (clockNumber base extension) w (now (number .entry) ∷ []) (now (number .exit) ∷ []) ⌝ }
 {
     let ClockMade::Done(c) = ClockRef::from_parts(base, extension) else {
         return OUT_OF_RANGE;
@@ -86,7 +86,7 @@ pub extern "C" fn cmv_clock_ref_eq(
     extension2: u16,
     same: &mut u64,
 ) -> u32
-    ensures { λ w. ⌜ Told (sameAnswer base extension base2 extension2) w (now (same .entry) ∷ []) (now (same .exit) ∷ []) ⌝ }
+    ensures { λ w. ⌜ Reports (sameAnswer base extension base2 extension2) w (now (same .entry) ∷ []) (now (same .exit) ∷ []) ⌝ }
 {
     let ClockMade::Done(c) = ClockRef::from_parts(base, extension) else {
         return OUT_OF_RANGE;
@@ -101,7 +101,7 @@ pub extern "C" fn cmv_clock_ref_eq(
 // ContinuityCounter::new, and its count
 #[no_mangle]
 pub extern "C" fn cmv_continuity_counter_new(count: u8, value: &mut u64) -> u32
-    ensures { λ w. ⌜ Told (makeCounter count) w (now (value .entry) ∷ []) (now (value .exit) ∷ []) ⌝ }
+    ensures { λ w. ⌜ Reports (makeCounter count) w (now (value .entry) ∷ []) (now (value .exit) ∷ []) ⌝ }
 {
     match ContinuityCounter::new(count) {
         CounterMade::Done(c) => {
@@ -115,7 +115,7 @@ pub extern "C" fn cmv_continuity_counter_new(count: u8, value: &mut u64) -> u32
 // ContinuityCounter::follows, of two numbers that are counters
 #[no_mangle]
 pub extern "C" fn cmv_continuity_counter_follows(count: u8, other: u8, follows: &mut u64) -> u32
-    ensures { λ w. ⌜ Told (followsAnswer count other) w (now (follows .entry) ∷ []) (now (follows .exit) ∷ []) ⌝ }
+    ensures { λ w. ⌜ Reports (followsAnswer count other) w (now (follows .entry) ∷ []) (now (follows .exit) ∷ []) ⌝ }
 {
     let CounterMade::Done(a) = ContinuityCounter::new(count) else {
         return OUT_OF_RANGE;
@@ -128,7 +128,7 @@ pub extern "C" fn cmv_continuity_counter_follows(count: u8, other: u8, follows: 
 }
 
 fn tell_pid(r: PidMade, value: &mut u64) -> u32
-    ensures { λ w. ⌜ Told (givenPid r) w (now (value .entry) ∷ []) (now (value .exit) ∷ []) ⌝ }
+    ensures { λ w. ⌜ Reports (givenPid r) w (now (value .entry) ∷ []) (now (value .exit) ∷ []) ⌝ }
 {
     match r {
         PidMade::Done(p) => {
@@ -142,7 +142,7 @@ fn tell_pid(r: PidMade, value: &mut u64) -> u32
 // Pid::new, and its number
 #[no_mangle]
 pub extern "C" fn cmv_pid_new(pid: u16, value: &mut u64) -> u32
-    ensures { λ w. ⌜ Told (makePid pid) w (now (value .entry) ∷ []) (now (value .exit) ∷ []) ⌝ }
+    ensures { λ w. ⌜ Reports (makePid pid) w (now (value .entry) ∷ []) (now (value .exit) ∷ []) ⌝ }
 {
     tell_pid(Pid::new(pid), value)
 }
@@ -150,13 +150,13 @@ pub extern "C" fn cmv_pid_new(pid: u16, value: &mut u64) -> u32
 // Pid::try_from, and its number
 #[no_mangle]
 pub extern "C" fn cmv_pid_try_from(pid: u16, value: &mut u64) -> u32
-    ensures { λ w. ⌜ Told (makePid pid) w (now (value .entry) ∷ []) (now (value .exit) ∷ []) ⌝ }
+    ensures { λ w. ⌜ Reports (makePid pid) w (now (value .entry) ∷ []) (now (value .exit) ∷ []) ⌝ }
 {
     tell_pid(Pid::try_from(pid), value)
 }
 
 pub fn tell_control(c: AdaptationControl, field: &mut u64, payload: &mut u64) -> u32
-    ensures { λ w. ⌜ Told (controlAnswer (c .0)) w (now (field .entry) ∷ now (payload .entry) ∷ [])
+    ensures { λ w. ⌜ Reports (controlAnswer (c .0)) w (now (field .entry) ∷ now (payload .entry) ∷ [])
         (now (field .exit) ∷ now (payload .exit) ∷ []) ⌝ }
 {
     *field = c.has_adaptation_field() as u64;
@@ -167,14 +167,14 @@ pub fn tell_control(c: AdaptationControl, field: &mut u64, payload: &mut u64) ->
 // AdaptationControl::has_adaptation_field and has_payload
 #[no_mangle]
 pub extern "C" fn cmv_adaptation_control(byte: u8, field: &mut u64, payload: &mut u64) -> u32
-    ensures { λ w. ⌜ Told (controlAnswer byte) w (now (field .entry) ∷ now (payload .entry) ∷ [])
+    ensures { λ w. ⌜ Reports (controlAnswer byte) w (now (field .entry) ∷ now (payload .entry) ∷ [])
         (now (field .exit) ∷ now (payload .exit) ∷ []) ⌝ }
 {
     tell_control(AdaptationControl::new(byte), field, payload)
 }
 
 pub fn tell_scrambling(c: TransportScramblingControl, scrambled: &mut u64, scheme: &mut u64) -> u32
-    ensures { λ w. ⌜ Told (scramblingAnswer (c .0)) w (now (scrambled .entry) ∷ now (scheme .entry) ∷ [])
+    ensures { λ w. ⌜ Reports (scramblingAnswer (c .0)) w (now (scrambled .entry) ∷ now (scheme .entry) ∷ [])
         (now (scrambled .exit) ∷ now (scheme .exit) ∷ []) ⌝ }
 {
     *scrambled = c.is_scrambled() as u64;
@@ -192,7 +192,7 @@ pub extern "C" fn cmv_transport_scrambling_control(
     scrambled: &mut u64,
     scheme: &mut u64,
 ) -> u32
-    ensures { λ w. ⌜ Told (scramblingAnswer byte) w (now (scrambled .entry) ∷ now (scheme .entry) ∷ [])
+    ensures { λ w. ⌜ Reports (scramblingAnswer byte) w (now (scrambled .entry) ∷ now (scheme .entry) ∷ [])
         (now (scrambled .exit) ∷ now (scheme .exit) ∷ []) ⌝ }
 {
     tell_scrambling(
@@ -205,7 +205,7 @@ pub extern "C" fn cmv_transport_scrambling_control(
 // Pid::MAX_VALUE and Pid::PID_COUNT
 #[no_mangle]
 pub extern "C" fn cmv_control_constants(max: &mut u64, count: &mut u64) -> u32
-    ensures { λ w. ⌜ Told (answer done ((2 ^ 13 - 1) ∷ 2 ^ 13 ∷ [])) w (now (max .entry) ∷ now (count .entry) ∷ [])
+    ensures { λ w. ⌜ Reports (answer done ((2 ^ 13 - 1) ∷ 2 ^ 13 ∷ [])) w (now (max .entry) ∷ now (count .entry) ∷ [])
         (now (max .exit) ∷ now (count .exit) ∷ []) ⌝ }
 {
     *max = Pid::MAX_VALUE as u64;

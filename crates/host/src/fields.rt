@@ -3,7 +3,7 @@ ghost use mathlib.Core.List.{[], _∷_};
 ghost use Rattle.adaptation.specs.Adaptation.{givenFlag, givenClock, givenPart, readFlag, readPcr, readOpcr, readSpliceCountdown};
 ghost use Rattle.adaptation.specs.Adaptation.{readPrivateData, readExtension};
 ghost use Rattle.adaptation.specs.Extension.{readLtw, readRate, readSplice};
-ghost use Rattle.host.specs.Told.{Told};
+ghost use Rattle.host.specs.Reports.{Reports};
 use crate::clocks::tell_clock;
 use crate::numbers::DONE;
 use crate::numbers::FIELD_NOT_PRESENT;
@@ -19,7 +19,7 @@ use adaptation::extension::RateRead;
 use adaptation::extension::SpliceRead;
 
 fn tell_flag(r: FlagRead, value: &mut u64) -> u32
-    ensures { λ w. ⌜ Told (givenFlag r) w (now (value .entry) ∷ []) (now (value .exit) ∷ []) ⌝ }
+    ensures { λ w. ⌜ Reports (givenFlag r) w (now (value .entry) ∷ []) (now (value .exit) ∷ []) ⌝ }
 {
     match r {
         FlagRead::Done(b) => {
@@ -33,7 +33,7 @@ fn tell_flag(r: FlagRead, value: &mut u64) -> u32
 // adaptation::discontinuity_indicator
 #[no_mangle]
 pub extern "C" fn cmv_adaptation_field_discontinuity_indicator(buf: &[u8], value: &mut u64) -> u32
-    ensures { λ w. ⌜ Told (readFlag 0 (now (buf .entry))) w (now (value .entry) ∷ []) (now (value .exit) ∷ []) ⌝ }
+    ensures { λ w. ⌜ Reports (readFlag 0 (now (buf .entry))) w (now (value .entry) ∷ []) (now (value .exit) ∷ []) ⌝ }
 {
     tell_flag(adaptation::discontinuity_indicator(buf), value)
 }
@@ -41,7 +41,7 @@ pub extern "C" fn cmv_adaptation_field_discontinuity_indicator(buf: &[u8], value
 // adaptation::random_access_indicator
 #[no_mangle]
 pub extern "C" fn cmv_adaptation_field_random_access_indicator(buf: &[u8], value: &mut u64) -> u32
-    ensures { λ w. ⌜ Told (readFlag 1 (now (buf .entry))) w (now (value .entry) ∷ []) (now (value .exit) ∷ []) ⌝ }
+    ensures { λ w. ⌜ Reports (readFlag 1 (now (buf .entry))) w (now (value .entry) ∷ []) (now (value .exit) ∷ []) ⌝ }
 {
     tell_flag(adaptation::random_access_indicator(buf), value)
 }
@@ -52,13 +52,13 @@ pub extern "C" fn cmv_adaptation_field_elementary_stream_priority_indicator(
     buf: &[u8],
     value: &mut u64,
 ) -> u32
-    ensures { λ w. ⌜ Told (readFlag 2 (now (buf .entry))) w (now (value .entry) ∷ []) (now (value .exit) ∷ []) ⌝ }
+    ensures { λ w. ⌜ Reports (readFlag 2 (now (buf .entry))) w (now (value .entry) ∷ []) (now (value .exit) ∷ []) ⌝ }
 {
     tell_flag(adaptation::elementary_stream_priority_indicator(buf), value)
 }
 
 fn tell_clock_read(r: ClockRead, base: &mut u64, extension: &mut u64) -> u32
-    ensures { λ w. ⌜ Told (givenClock r) w (now (base .entry) ∷ now (extension .entry) ∷ [])
+    ensures { λ w. ⌜ Reports (givenClock r) w (now (base .entry) ∷ now (extension .entry) ∷ [])
         (now (base .exit) ∷ now (extension .exit) ∷ []) ⌝ }
 {
     match r {
@@ -72,7 +72,7 @@ fn tell_clock_read(r: ClockRead, base: &mut u64, extension: &mut u64) -> u32
 // adaptation::pcr
 #[no_mangle]
 pub extern "C" fn cmv_adaptation_field_pcr(buf: &[u8], base: &mut u64, extension: &mut u64) -> u32
-    ensures { λ w. ⌜ Told (readPcr (now (buf .entry))) w (now (base .entry) ∷ now (extension .entry) ∷ [])
+    ensures { λ w. ⌜ Reports (readPcr (now (buf .entry))) w (now (base .entry) ∷ now (extension .entry) ∷ [])
         (now (base .exit) ∷ now (extension .exit) ∷ []) ⌝ }
 {
     tell_clock_read(adaptation::pcr(buf), base, extension)
@@ -81,7 +81,7 @@ pub extern "C" fn cmv_adaptation_field_pcr(buf: &[u8], base: &mut u64, extension
 // adaptation::opcr
 #[no_mangle]
 pub extern "C" fn cmv_adaptation_field_opcr(buf: &[u8], base: &mut u64, extension: &mut u64) -> u32
-    ensures { λ w. ⌜ Told (readOpcr (now (buf .entry))) w (now (base .entry) ∷ now (extension .entry) ∷ [])
+    ensures { λ w. ⌜ Reports (readOpcr (now (buf .entry))) w (now (base .entry) ∷ now (extension .entry) ∷ [])
         (now (base .exit) ∷ now (extension .exit) ∷ []) ⌝ }
 {
     tell_clock_read(adaptation::opcr(buf), base, extension)
@@ -90,7 +90,7 @@ pub extern "C" fn cmv_adaptation_field_opcr(buf: &[u8], base: &mut u64, extensio
 // adaptation::splice_countdown
 #[no_mangle]
 pub extern "C" fn cmv_adaptation_field_splice_countdown(buf: &[u8], value: &mut u64) -> u32
-    ensures { λ w. ⌜ Told (readSpliceCountdown (now (buf .entry))) w (now (value .entry) ∷ []) (now (value .exit) ∷ []) ⌝ }
+    ensures { λ w. ⌜ Reports (readSpliceCountdown (now (buf .entry))) w (now (value .entry) ∷ []) (now (value .exit) ∷ []) ⌝ }
 {
     match adaptation::splice_countdown(buf) {
         ByteRead::Done(n) => {
@@ -104,7 +104,7 @@ pub extern "C" fn cmv_adaptation_field_splice_countdown(buf: &[u8], value: &mut 
 }
 
 fn tell_part(r: PartRead, place: &mut u64, length: &mut u64) -> u32
-    ensures { λ w. ⌜ Told (givenPart r) w (now (place .entry) ∷ now (length .entry) ∷ []) (now (place .exit) ∷ now (length .exit) ∷ []) ⌝ }
+    ensures { λ w. ⌜ Reports (givenPart r) w (now (place .entry) ∷ now (length .entry) ∷ []) (now (place .exit) ∷ now (length .exit) ∷ []) ⌝ }
 {
     match r {
         PartRead::Done {
@@ -128,7 +128,7 @@ pub extern "C" fn cmv_adaptation_field_transport_private_data(
     place: &mut u64,
     length: &mut u64,
 ) -> u32
-    ensures { λ w. ⌜ Told (readPrivateData (now (buf .entry))) w (now (place .entry) ∷ now (length .entry) ∷ [])
+    ensures { λ w. ⌜ Reports (readPrivateData (now (buf .entry))) w (now (place .entry) ∷ now (length .entry) ∷ [])
         (now (place .exit) ∷ now (length .exit) ∷ []) ⌝ }
 {
     tell_part(adaptation::transport_private_data_at(buf), place, length)
@@ -141,7 +141,7 @@ pub extern "C" fn cmv_adaptation_field_extension(
     place: &mut u64,
     length: &mut u64,
 ) -> u32
-    ensures { λ w. ⌜ Told (readExtension (now (buf .entry))) w (now (place .entry) ∷ now (length .entry) ∷ [])
+    ensures { λ w. ⌜ Reports (readExtension (now (buf .entry))) w (now (place .entry) ∷ now (length .entry) ∷ [])
         (now (place .exit) ∷ now (length .exit) ∷ []) ⌝ }
 {
     tell_part(
@@ -158,7 +158,7 @@ pub extern "C" fn cmv_adaptation_extension_ltw_offset(
     kind: &mut u64,
     offset: &mut u64,
 ) -> u32
-    ensures { λ w. ⌜ Told (readLtw (now (buf .entry))) w (now (kind .entry) ∷ now (offset .entry) ∷ [])
+    ensures { λ w. ⌜ Reports (readLtw (now (buf .entry))) w (now (kind .entry) ∷ now (offset .entry) ∷ [])
         (now (kind .exit) ∷ now (offset .exit) ∷ []) ⌝ }
 {
     match adaptation::extension::ltw_offset(buf) {
@@ -180,7 +180,7 @@ pub extern "C" fn cmv_adaptation_extension_ltw_offset(
 // adaptation::extension::piecewise_rate
 #[no_mangle]
 pub extern "C" fn cmv_adaptation_extension_piecewise_rate(buf: &[u8], value: &mut u64) -> u32
-    ensures { λ w. ⌜ Told (readRate (now (buf .entry))) w (now (value .entry) ∷ []) (now (value .exit) ∷ []) ⌝ }
+    ensures { λ w. ⌜ Reports (readRate (now (buf .entry))) w (now (value .entry) ∷ []) (now (value .exit) ∷ []) ⌝ }
 {
     match adaptation::extension::piecewise_rate(buf) {
         RateRead::Done(n) => {
@@ -199,7 +199,7 @@ pub extern "C" fn cmv_adaptation_extension_seamless_splice(
     splice: &mut u64,
     dts: &mut u64,
 ) -> u32
-    ensures { λ w. ⌜ Told (readSplice (now (buf .entry))) w (now (splice .entry) ∷ now (dts .entry) ∷ [])
+    ensures { λ w. ⌜ Reports (readSplice (now (buf .entry))) w (now (splice .entry) ∷ now (dts .entry) ∷ [])
         (now (splice .exit) ∷ now (dts .exit) ∷ []) ⌝ }
 {
     match adaptation::extension::seamless_splice(buf) {

@@ -1,9 +1,9 @@
 // Heads of PES packets.
 ghost use mathlib.Core.Path.{_≡_};
 ghost use mathlib.Core.List.{[], _∷_};
-ghost use Rattle.pes.specs.Head.{readHead, readStreamId, readLength, readContents};
+ghost use Rattle.pes.specs.Head.{readHead, readStreamId, readLength, readContentsPart};
 ghost use Rattle.pes.specs.Stream.{streamValues};
-ghost use Rattle.host.specs.Told.{Told};
+ghost use Rattle.host.specs.Reports.{Reports};
 use crate::numbers::BAD_START_CODE;
 use crate::numbers::DONE;
 use crate::numbers::Pair;
@@ -17,7 +17,7 @@ use pes::StreamIdRead;
 // pes::from_bytes
 #[no_mangle]
 pub extern "C" fn cmv_pes_header_from_bytes(buf: &[u8]) -> u32
-    ensures { λ w. ⌜ Told (readHead (now (buf .entry))) w [] [] ⌝ }
+    ensures { λ w. ⌜ Reports (readHead (now (buf .entry))) w [] [] ⌝ }
 {
     match pes::from_bytes(buf) {
         HeadRead::Done => DONE,
@@ -63,7 +63,7 @@ fn values(s: StreamId) -> Pair
 // FD extended stream id, FE reserved data, FF program stream directory.
 #[no_mangle]
 pub extern "C" fn cmv_pes_header_stream_id(buf: &[u8], kind: &mut u64, low: &mut u64) -> u32
-    ensures { λ w. ⌜ Told (readStreamId (now (buf .entry))) w (now (kind .entry) ∷ now (low .entry) ∷ [])
+    ensures { λ w. ⌜ Reports (readStreamId (now (buf .entry))) w (now (kind .entry) ∷ now (low .entry) ∷ [])
         (now (kind .exit) ∷ now (low .exit) ∷ []) ⌝ }
 {
     match pes::stream_id(buf) {
@@ -85,7 +85,7 @@ pub extern "C" fn cmv_pes_header_pes_packet_length(
     kind: &mut u64,
     length: &mut u64,
 ) -> u32
-    ensures { λ w. ⌜ Told (readLength (now (buf .entry))) w (now (kind .entry) ∷ now (length .entry) ∷ [])
+    ensures { λ w. ⌜ Reports (readLength (now (buf .entry))) w (now (kind .entry) ∷ now (length .entry) ∷ [])
         (now (kind .exit) ∷ now (length .exit) ∷ []) ⌝ }
 {
     match pes::pes_packet_length(buf) {
@@ -112,7 +112,7 @@ pub extern "C" fn cmv_pes_header_contents(
     place: &mut u64,
     length: &mut u64,
 ) -> u32
-    ensures { λ w. ⌜ Told (readContents (now (buf .entry))) w (now (kind .entry) ∷ now (place .entry) ∷ now (length .entry) ∷ [])
+    ensures { λ w. ⌜ Reports (readContentsPart (now (buf .entry))) w (now (kind .entry) ∷ now (place .entry) ∷ now (length .entry) ∷ [])
         (now (kind .exit) ∷ now (place .exit) ∷ now (length .exit) ∷ []) ⌝ }
 {
     match pes::contents(buf) {

@@ -5,7 +5,7 @@ ghost use Rattle.bits.specs.Answer.{answer, truth};
 ghost use Rattle.bits.specs.Numbers.{done};
 ghost use Rattle.packet.specs.Packet.{givenFlag, givenPart, tried, readFlag, errorBit, startBit, priorityBit, readPid, readCounter};
 ghost use Rattle.packet.specs.Packet.{readAdaptation, readPayload};
-ghost use Rattle.host.specs.Told.{Told};
+ghost use Rattle.host.specs.Reports.{Reports};
 ghost use Rattle.host.specs.Packets.{readScrambling, readControl};
 use crate::clocks::tell_control;
 use crate::clocks::tell_scrambling;
@@ -24,7 +24,7 @@ use packet::Tried;
 // packet::is_sync_byte
 #[no_mangle]
 pub extern "C" fn cmv_packet_is_sync_byte(b: u8, is: &mut u64) -> u32
-    ensures { λ w. ⌜ Told (answer done (truth (eqb b 0x47) ∷ [])) w (now (is .entry) ∷ []) (now (is .exit) ∷ []) ⌝ }
+    ensures { λ w. ⌜ Reports (answer done (truth (eqb b 0x47) ∷ [])) w (now (is .entry) ∷ []) (now (is .exit) ∷ []) ⌝ }
 {
     *is = packet::is_sync_byte(b) as u64;
     DONE
@@ -33,7 +33,7 @@ pub extern "C" fn cmv_packet_is_sync_byte(b: u8, is: &mut u64) -> u32
 // packet::try_new
 #[no_mangle]
 pub extern "C" fn cmv_packet_try_new(buf: &[u8]) -> u32
-    ensures { λ w. ⌜ Told (tried (now (buf .entry))) w [] [] ⌝ }
+    ensures { λ w. ⌜ Reports (tried (now (buf .entry))) w [] [] ⌝ }
 {
     match packet::try_new(buf) {
         Tried::Done => DONE,
@@ -43,7 +43,7 @@ pub extern "C" fn cmv_packet_try_new(buf: &[u8]) -> u32
 }
 
 fn tell_flag(r: FlagRead, value: &mut u64) -> u32
-    ensures { λ w. ⌜ Told (givenFlag r) w (now (value .entry) ∷ []) (now (value .exit) ∷ []) ⌝ }
+    ensures { λ w. ⌜ Reports (givenFlag r) w (now (value .entry) ∷ []) (now (value .exit) ∷ []) ⌝ }
 {
     match r {
         FlagRead::Done(b) => {
@@ -58,7 +58,7 @@ fn tell_flag(r: FlagRead, value: &mut u64) -> u32
 // packet::transport_error_indicator
 #[no_mangle]
 pub extern "C" fn cmv_packet_transport_error_indicator(buf: &[u8], value: &mut u64) -> u32
-    ensures { λ w. ⌜ Told (readFlag errorBit (now (buf .entry))) w (now (value .entry) ∷ []) (now (value .exit) ∷ []) ⌝ }
+    ensures { λ w. ⌜ Reports (readFlag errorBit (now (buf .entry))) w (now (value .entry) ∷ []) (now (value .exit) ∷ []) ⌝ }
 {
     tell_flag(packet::transport_error_indicator(buf), value)
 }
@@ -66,7 +66,7 @@ pub extern "C" fn cmv_packet_transport_error_indicator(buf: &[u8], value: &mut u
 // packet::payload_unit_start_indicator
 #[no_mangle]
 pub extern "C" fn cmv_packet_payload_unit_start_indicator(buf: &[u8], value: &mut u64) -> u32
-    ensures { λ w. ⌜ Told (readFlag startBit (now (buf .entry))) w (now (value .entry) ∷ []) (now (value .exit) ∷ []) ⌝ }
+    ensures { λ w. ⌜ Reports (readFlag startBit (now (buf .entry))) w (now (value .entry) ∷ []) (now (value .exit) ∷ []) ⌝ }
 {
     tell_flag(packet::payload_unit_start_indicator(buf), value)
 }
@@ -74,7 +74,7 @@ pub extern "C" fn cmv_packet_payload_unit_start_indicator(buf: &[u8], value: &mu
 // packet::transport_priority
 #[no_mangle]
 pub extern "C" fn cmv_packet_transport_priority(buf: &[u8], value: &mut u64) -> u32
-    ensures { λ w. ⌜ Told (readFlag priorityBit (now (buf .entry))) w (now (value .entry) ∷ []) (now (value .exit) ∷ []) ⌝ }
+    ensures { λ w. ⌜ Reports (readFlag priorityBit (now (buf .entry))) w (now (value .entry) ∷ []) (now (value .exit) ∷ []) ⌝ }
 {
     tell_flag(packet::transport_priority(buf), value)
 }
@@ -82,7 +82,7 @@ pub extern "C" fn cmv_packet_transport_priority(buf: &[u8], value: &mut u64) -> 
 // packet::pid
 #[no_mangle]
 pub extern "C" fn cmv_packet_pid(buf: &[u8], value: &mut u64) -> u32
-    ensures { λ w. ⌜ Told (readPid (now (buf .entry))) w (now (value .entry) ∷ []) (now (value .exit) ∷ []) ⌝ }
+    ensures { λ w. ⌜ Reports (readPid (now (buf .entry))) w (now (value .entry) ∷ []) (now (value .exit) ∷ []) ⌝ }
 {
     match packet::pid(buf) {
         PidRead::Done(p) => {
@@ -101,7 +101,7 @@ pub extern "C" fn cmv_packet_transport_scrambling_control(
     scrambled: &mut u64,
     scheme: &mut u64,
 ) -> u32
-    ensures { λ w. ⌜ Told (readScrambling (now (buf .entry))) w (now (scrambled .entry) ∷ now (scheme .entry) ∷ [])
+    ensures { λ w. ⌜ Reports (readScrambling (now (buf .entry))) w (now (scrambled .entry) ∷ now (scheme .entry) ∷ [])
         (now (scrambled .exit) ∷ now (scheme .exit) ∷ []) ⌝ }
 {
     match packet::transport_scrambling_control(buf) {
@@ -118,7 +118,7 @@ pub extern "C" fn cmv_packet_adaptation_control(
     field: &mut u64,
     payload: &mut u64,
 ) -> u32
-    ensures { λ w. ⌜ Told (readControl (now (buf .entry))) w (now (field .entry) ∷ now (payload .entry) ∷ [])
+    ensures { λ w. ⌜ Reports (readControl (now (buf .entry))) w (now (field .entry) ∷ now (payload .entry) ∷ [])
         (now (field .exit) ∷ now (payload .exit) ∷ []) ⌝ }
 {
     match packet::adaptation_control(buf) {
@@ -131,7 +131,7 @@ pub extern "C" fn cmv_packet_adaptation_control(
 // packet::continuity_counter
 #[no_mangle]
 pub extern "C" fn cmv_packet_continuity_counter(buf: &[u8], value: &mut u64) -> u32
-    ensures { λ w. ⌜ Told (readCounter (now (buf .entry))) w (now (value .entry) ∷ []) (now (value .exit) ∷ []) ⌝ }
+    ensures { λ w. ⌜ Reports (readCounter (now (buf .entry))) w (now (value .entry) ∷ []) (now (value .exit) ∷ []) ⌝ }
 {
     match packet::continuity_counter(buf) {
         CounterRead::Done(k) => {
@@ -144,7 +144,7 @@ pub extern "C" fn cmv_packet_continuity_counter(buf: &[u8], value: &mut u64) -> 
 }
 
 fn tell_part(r: PartRead, place: &mut u64, length: &mut u64) -> u32
-    ensures { λ w. ⌜ Told (givenPart r) w (now (place .entry) ∷ now (length .entry) ∷ []) (now (place .exit) ∷ now (length .exit) ∷ []) ⌝ }
+    ensures { λ w. ⌜ Reports (givenPart r) w (now (place .entry) ∷ now (length .entry) ∷ []) (now (place .exit) ∷ now (length .exit) ∷ []) ⌝ }
 {
     match r {
         PartRead::Done {
@@ -164,7 +164,7 @@ fn tell_part(r: PartRead, place: &mut u64, length: &mut u64) -> u32
 // packet::adaptation_field_at: where what adaptation_field gives lies
 #[no_mangle]
 pub extern "C" fn cmv_packet_adaptation_field(buf: &[u8], place: &mut u64, length: &mut u64) -> u32
-    ensures { λ w. ⌜ Told (readAdaptation (now (buf .entry))) w (now (place .entry) ∷ now (length .entry) ∷ [])
+    ensures { λ w. ⌜ Reports (readAdaptation (now (buf .entry))) w (now (place .entry) ∷ now (length .entry) ∷ [])
         (now (place .exit) ∷ now (length .exit) ∷ []) ⌝ }
 {
     tell_part(packet::adaptation_field_at(buf), place, length)
@@ -173,7 +173,7 @@ pub extern "C" fn cmv_packet_adaptation_field(buf: &[u8], place: &mut u64, lengt
 // packet::payload_at: where what payload gives lies
 #[no_mangle]
 pub extern "C" fn cmv_packet_payload(buf: &[u8], place: &mut u64, length: &mut u64) -> u32
-    ensures { λ w. ⌜ Told (readPayload (now (buf .entry))) w (now (place .entry) ∷ now (length .entry) ∷ [])
+    ensures { λ w. ⌜ Reports (readPayload (now (buf .entry))) w (now (place .entry) ∷ now (length .entry) ∷ [])
         (now (place .exit) ∷ now (length .exit) ∷ []) ⌝ }
 {
     tell_part(packet::payload_at(buf), place, length)
@@ -182,7 +182,7 @@ pub extern "C" fn cmv_packet_payload(buf: &[u8], place: &mut u64, length: &mut u
 // packet::SYNC_BYTE and packet::SIZE
 #[no_mangle]
 pub extern "C" fn cmv_packet_constants(sync: &mut u64, size: &mut u64) -> u32
-    ensures { λ w. ⌜ Told (answer done (0x47 ∷ 188 ∷ [])) w (now (sync .entry) ∷ now (size .entry) ∷ [])
+    ensures { λ w. ⌜ Reports (answer done (0x47 ∷ 188 ∷ [])) w (now (sync .entry) ∷ now (size .entry) ∷ [])
         (now (sync .exit) ∷ now (size .exit) ∷ []) ⌝ }
 {
     *sync = packet::SYNC_BYTE as u64;

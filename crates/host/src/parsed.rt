@@ -9,7 +9,7 @@ ghost use Rattle.contents.specs.Contents.{readPayload, makeRate, rateBytes};
 ghost use Rattle.contents.specs.Trick.{readTrick, readRawTrick};
 ghost use Rattle.contents.specs.Given.{refusal, givenByte, alignment, statusBit, originality, givenStamp, truncation, trickValues};
 ghost use Rattle.contents.specs.Given.{givenPart};
-ghost use Rattle.host.specs.Told.{Told, filled};
+ghost use Rattle.host.specs.Reports.{Reports, filled};
 use crate::clocks::tell_clock;
 use crate::numbers::BAD_CHECK_BITS;
 use crate::numbers::DONE;
@@ -47,7 +47,7 @@ use contents::TrickRead;
 
 // A refusal is told whatever numbers are lent.
 fn refused(r: Refusal) -> u32
-    ensures { λ w. ⌜ ((lent : List ℕ) → Told (refusal r) w lent lent) ⌝ }
+    ensures { λ w. ⌜ ((lent : List ℕ) → Reports (refusal r) w lent lent) ⌝ }
 {
     match r {
         Refusal::ShortContents => SHORT_CONTENTS,
@@ -60,7 +60,7 @@ fn refused(r: Refusal) -> u32
 // contents::from_bytes
 #[no_mangle]
 pub extern "C" fn cmv_pes_contents_from_bytes(buf: &[u8]) -> u32
-    ensures { λ w. ⌜ Told (readContents (now (buf .entry))) w [] [] ⌝ }
+    ensures { λ w. ⌜ Reports (readContents (now (buf .entry))) w [] [] ⌝ }
 {
     match contents::from_bytes(buf) {
         ContentsRead::Done => DONE,
@@ -69,7 +69,7 @@ pub extern "C" fn cmv_pes_contents_from_bytes(buf: &[u8]) -> u32
 }
 
 fn tell_byte(r: ByteRead, value: &mut u64) -> u32
-    ensures { λ w. ⌜ Told (givenByte r) w (now (value .entry) ∷ []) (now (value .exit) ∷ []) ⌝ }
+    ensures { λ w. ⌜ Reports (givenByte r) w (now (value .entry) ∷ []) (now (value .exit) ∷ []) ⌝ }
 {
     match r {
         ByteRead::Done(n) => {
@@ -83,7 +83,7 @@ fn tell_byte(r: ByteRead, value: &mut u64) -> u32
 // contents::pes_priority
 #[no_mangle]
 pub extern "C" fn cmv_pes_contents_pes_priority(buf: &[u8], value: &mut u64) -> u32
-    ensures { λ w. ⌜ Told (readFixed priorityBit 1 (now (buf .entry))) w (now (value .entry) ∷ []) (now (value .exit) ∷ []) ⌝ }
+    ensures { λ w. ⌜ Reports (readFixed priorityBit 1 (now (buf .entry))) w (now (value .entry) ∷ []) (now (value .exit) ∷ []) ⌝ }
 {
     tell_byte(contents::pes_priority(buf), value)
 }
@@ -91,7 +91,7 @@ pub extern "C" fn cmv_pes_contents_pes_priority(buf: &[u8], value: &mut u64) -> 
 // contents::pes_scrambling_control
 #[no_mangle]
 pub extern "C" fn cmv_pes_contents_pes_scrambling_control(buf: &[u8], value: &mut u64) -> u32
-    ensures { λ w. ⌜ Told (readFixed scramblingBit 2 (now (buf .entry))) w (now (value .entry) ∷ []) (now (value .exit) ∷ []) ⌝ }
+    ensures { λ w. ⌜ Reports (readFixed scramblingBit 2 (now (buf .entry))) w (now (value .entry) ∷ []) (now (value .exit) ∷ []) ⌝ }
 {
     tell_byte(contents::pes_scrambling_control(buf), value)
 }
@@ -99,7 +99,7 @@ pub extern "C" fn cmv_pes_contents_pes_scrambling_control(buf: &[u8], value: &mu
 // contents::flags
 #[no_mangle]
 pub extern "C" fn cmv_pes_contents_flags(buf: &[u8], value: &mut u64) -> u32
-    ensures { λ w. ⌜ Told (readFixed flagsBit 8 (now (buf .entry))) w (now (value .entry) ∷ []) (now (value .exit) ∷ []) ⌝ }
+    ensures { λ w. ⌜ Reports (readFixed flagsBit 8 (now (buf .entry))) w (now (value .entry) ∷ []) (now (value .exit) ∷ []) ⌝ }
 {
     tell_byte(contents::flags(buf), value)
 }
@@ -107,7 +107,7 @@ pub extern "C" fn cmv_pes_contents_flags(buf: &[u8], value: &mut u64) -> u32
 // contents::pes_header_data_len
 #[no_mangle]
 pub extern "C" fn cmv_pes_contents_pes_header_data_len(buf: &[u8], value: &mut u64) -> u32
-    ensures { λ w. ⌜ Told (readFixed dataLengthBit 8 (now (buf .entry))) w (now (value .entry) ∷ []) (now (value .exit) ∷ []) ⌝ }
+    ensures { λ w. ⌜ Reports (readFixed dataLengthBit 8 (now (buf .entry))) w (now (value .entry) ∷ []) (now (value .exit) ∷ []) ⌝ }
 {
     tell_byte(contents::pes_header_data_len(buf), value)
 }
@@ -124,7 +124,7 @@ fn aligned(x: DataAlignment) -> u64
 // contents::data_alignment_indicator: 1 where aligned
 #[no_mangle]
 pub extern "C" fn cmv_pes_contents_data_alignment_indicator(buf: &[u8], value: &mut u64) -> u32
-    ensures { λ w. ⌜ Told (readFixed alignmentBit 1 (now (buf .entry))) w (now (value .entry) ∷ []) (now (value .exit) ∷ []) ⌝ }
+    ensures { λ w. ⌜ Reports (readFixed alignmentBit 1 (now (buf .entry))) w (now (value .entry) ∷ []) (now (value .exit) ∷ []) ⌝ }
 {
     match contents::data_alignment_indicator(buf) {
         AlignmentRead::Done(a) => {
@@ -147,7 +147,7 @@ fn undefined(x: CopyrightStatus) -> u64
 // contents::copyright: 1 where undefined
 #[no_mangle]
 pub extern "C" fn cmv_pes_contents_copyright(buf: &[u8], value: &mut u64) -> u32
-    ensures { λ w. ⌜ Told (readFixed copyrightBit 1 (now (buf .entry))) w (now (value .entry) ∷ []) (now (value .exit) ∷ []) ⌝ }
+    ensures { λ w. ⌜ Reports (readFixed copyrightBit 1 (now (buf .entry))) w (now (value .entry) ∷ []) (now (value .exit) ∷ []) ⌝ }
 {
     match contents::copyright(buf) {
         CopyrightRead::Done(s) => {
@@ -170,7 +170,7 @@ fn original(x: OriginalOrCopy) -> u64
 // contents::original_or_copy: 1 where original
 #[no_mangle]
 pub extern "C" fn cmv_pes_contents_original_or_copy(buf: &[u8], value: &mut u64) -> u32
-    ensures { λ w. ⌜ Told (readFixed originalBit 1 (now (buf .entry))) w (now (value .entry) ∷ []) (now (value .exit) ∷ []) ⌝ }
+    ensures { λ w. ⌜ Reports (readFixed originalBit 1 (now (buf .entry))) w (now (value .entry) ∷ []) (now (value .exit) ∷ []) ⌝ }
 {
     match contents::original_or_copy(buf) {
         OriginalRead::Done(o) => {
@@ -204,7 +204,7 @@ pub extern "C" fn cmv_pes_contents_pts_dts(
     dtsnumber: &mut u64,
     dts: &mut u64,
 ) -> u32
-    ensures { λ w. ⌜ Told (readPtsDts (now (buf .entry))) w
+    ensures { λ w. ⌜ Reports (readPtsDts (now (buf .entry))) w
         (now (kind .entry) ∷ now (ptsnumber .entry) ∷ now (pts .entry) ∷ now (dtsnumber .entry) ∷ now (dts .entry) ∷ [])
         (now (kind .exit) ∷ now (ptsnumber .exit) ∷ now (pts .exit) ∷ now (dtsnumber .exit) ∷ now (dts .exit) ∷ []) ⌝ }
 {
@@ -237,7 +237,7 @@ pub extern "C" fn cmv_pes_contents_pts_dts(
 // contents::escr
 #[no_mangle]
 pub extern "C" fn cmv_pes_contents_escr(buf: &[u8], base: &mut u64, extension: &mut u64) -> u32
-    ensures { λ w. ⌜ Told (readEscr (now (buf .entry))) w (now (base .entry) ∷ now (extension .entry) ∷ [])
+    ensures { λ w. ⌜ Reports (readEscr (now (buf .entry))) w (now (base .entry) ∷ now (extension .entry) ∷ [])
         (now (base .exit) ∷ now (extension .exit) ∷ []) ⌝ }
 {
     match contents::escr(buf) {
@@ -250,7 +250,7 @@ pub extern "C" fn cmv_pes_contents_escr(buf: &[u8], base: &mut u64, extension: &
 // contents::es_rate
 #[no_mangle]
 pub extern "C" fn cmv_pes_contents_es_rate(buf: &[u8], value: &mut u64) -> u32
-    ensures { λ w. ⌜ Told (readEsRate (now (buf .entry))) w (now (value .entry) ∷ []) (now (value .exit) ∷ []) ⌝ }
+    ensures { λ w. ⌜ Reports (readEsRate (now (buf .entry))) w (now (value .entry) ∷ []) (now (value .exit) ∷ []) ⌝ }
 {
     match contents::es_rate(buf) {
         EsRateRead::Done(e) => {
@@ -324,7 +324,7 @@ pub extern "C" fn cmv_pes_contents_dsm_trick_mode(
     second: &mut u64,
     third: &mut u64,
 ) -> u32
-    ensures { λ w. ⌜ Told (readTrick (now (buf .entry))) w
+    ensures { λ w. ⌜ Reports (readTrick (now (buf .entry))) w
         (now (kind .entry) ∷ now (first .entry) ∷ now (second .entry) ∷ now (third .entry) ∷ [])
         (now (kind .exit) ∷ now (first .exit) ∷ now (second .exit) ∷ now (third .exit) ∷ []) ⌝ }
 {
@@ -345,7 +345,7 @@ pub extern "C" fn cmv_pes_contents_dsm_trick_mode(
 // contents::raw_trick_mode
 #[no_mangle]
 pub extern "C" fn cmv_pes_contents_raw_trick_mode(buf: &[u8], value: &mut u64) -> u32
-    ensures { λ w. ⌜ Told (readRawTrick (now (buf .entry))) w (now (value .entry) ∷ []) (now (value .exit) ∷ []) ⌝ }
+    ensures { λ w. ⌜ Reports (readRawTrick (now (buf .entry))) w (now (value .entry) ∷ []) (now (value .exit) ∷ []) ⌝ }
 {
     match contents::raw_trick_mode(buf) {
         FieldRead::Done(n) => {
@@ -360,7 +360,7 @@ pub extern "C" fn cmv_pes_contents_raw_trick_mode(buf: &[u8], value: &mut u64) -
 // contents::additional_copy_info
 #[no_mangle]
 pub extern "C" fn cmv_pes_contents_additional_copy_info(buf: &[u8], value: &mut u64) -> u32
-    ensures { λ w. ⌜ Told (readCopyInfo (now (buf .entry))) w (now (value .entry) ∷ []) (now (value .exit) ∷ []) ⌝ }
+    ensures { λ w. ⌜ Reports (readCopyInfo (now (buf .entry))) w (now (value .entry) ∷ []) (now (value .exit) ∷ []) ⌝ }
 {
     match contents::additional_copy_info(buf) {
         CopyInfoRead::Done(n) => {
@@ -377,7 +377,7 @@ pub extern "C" fn cmv_pes_contents_additional_copy_info(buf: &[u8], value: &mut 
 // contents::previous_pes_packet_crc
 #[no_mangle]
 pub extern "C" fn cmv_pes_contents_previous_pes_packet_crc(buf: &[u8], value: &mut u64) -> u32
-    ensures { λ w. ⌜ Told (readCrc (now (buf .entry))) w (now (value .entry) ∷ []) (now (value .exit) ∷ []) ⌝ }
+    ensures { λ w. ⌜ Reports (readCrc (now (buf .entry))) w (now (value .entry) ∷ []) (now (value .exit) ∷ []) ⌝ }
 {
     match contents::previous_pes_packet_crc(buf) {
         CrcRead::Done(n) => {
@@ -390,7 +390,7 @@ pub extern "C" fn cmv_pes_contents_previous_pes_packet_crc(buf: &[u8], value: &m
 }
 
 fn tell_part(r: PartRead, place: &mut u64, length: &mut u64) -> u32
-    ensures { λ w. ⌜ Told (givenPart r) w (now (place .entry) ∷ now (length .entry) ∷ []) (now (place .exit) ∷ now (length .exit) ∷ []) ⌝ }
+    ensures { λ w. ⌜ Reports (givenPart r) w (now (place .entry) ∷ now (length .entry) ∷ []) (now (place .exit) ∷ now (length .exit) ∷ []) ⌝ }
 {
     match r {
         PartRead::Done {
@@ -413,7 +413,7 @@ pub extern "C" fn cmv_pes_contents_pes_extension(
     place: &mut u64,
     length: &mut u64,
 ) -> u32
-    ensures { λ w. ⌜ Told (readExtension (now (buf .entry))) w (now (place .entry) ∷ now (length .entry) ∷ [])
+    ensures { λ w. ⌜ Reports (readExtension (now (buf .entry))) w (now (place .entry) ∷ now (length .entry) ∷ [])
         (now (place .exit) ∷ now (length .exit) ∷ []) ⌝ }
 {
     tell_part(contents::pes_extension_at(buf), place, length)
@@ -422,7 +422,7 @@ pub extern "C" fn cmv_pes_contents_pes_extension(
 // contents::payload_at: where what payload gives lies
 #[no_mangle]
 pub extern "C" fn cmv_pes_contents_payload(buf: &[u8], place: &mut u64, length: &mut u64) -> u32
-    ensures { λ w. ⌜ Told (readPayload (now (buf .entry))) w (now (place .entry) ∷ now (length .entry) ∷ [])
+    ensures { λ w. ⌜ Reports (readPayload (now (buf .entry))) w (now (place .entry) ∷ now (length .entry) ∷ [])
         (now (place .exit) ∷ now (length .exit) ∷ []) ⌝ }
 {
     tell_part(contents::payload_at(buf), place, length)
@@ -431,7 +431,7 @@ pub extern "C" fn cmv_pes_contents_payload(buf: &[u8], place: &mut u64, length: 
 // EsRate::new, and its number
 #[no_mangle]
 pub extern "C" fn cmv_es_rate_new(rate: u32, value: &mut u64) -> u32
-    ensures { λ w. ⌜ Told (makeRate rate) w (now (value .entry) ∷ []) (now (value .exit) ∷ []) ⌝ }
+    ensures { λ w. ⌜ Reports (makeRate rate) w (now (value .entry) ∷ []) (now (value .exit) ∷ []) ⌝ }
 {
     match EsRate::new(rate) {
         EsRateMade::Done(e) => {
@@ -445,7 +445,7 @@ pub extern "C" fn cmv_es_rate_new(rate: u32, value: &mut u64) -> u32
 // EsRate::bytes_per_second, of a number that is a rate
 #[no_mangle]
 pub extern "C" fn cmv_es_rate_bytes_per_second(rate: u32, value: &mut u64) -> u32
-    ensures { λ w. ⌜ Told (rateBytes rate) w (now (value .entry) ∷ []) (now (value .exit) ∷ []) ⌝ }
+    ensures { λ w. ⌜ Reports (rateBytes rate) w (now (value .entry) ∷ []) (now (value .exit) ∷ []) ⌝ }
 {
     let EsRateMade::Done(e) = EsRate::new(rate) else {
         return OUT_OF_RANGE;

@@ -4,7 +4,7 @@ ghost use Prim.Native.Nat.{_-_, _^_};
 ghost use Rattle.bits.specs.Answer.{answer};
 ghost use Rattle.bits.specs.Numbers.{done};
 ghost use Rattle.timestamp.specs.Stamp.{given, makeStamp, readStamp, readPrefixed, ptsPrefix, dtsPrefix};
-ghost use Rattle.host.specs.Told.{Told};
+ghost use Rattle.host.specs.Reports.{Reports};
 ghost use Rattle.host.specs.Stamps.{wrapAnswer};
 use crate::numbers::DONE;
 use crate::numbers::INCORRECT_PREFIX_BITS;
@@ -16,7 +16,7 @@ use timestamp::TimestampMade;
 use timestamp::TimestampRead;
 
 fn tell(r: TimestampRead, value: &mut u64) -> u32
-    ensures { λ w. ⌜ Told (given r) w (now (value .entry) ∷ []) (now (value .exit) ∷ []) ⌝ }
+    ensures { λ w. ⌜ Reports (given r) w (now (value .entry) ∷ []) (now (value .exit) ∷ []) ⌝ }
 {
     match r {
         TimestampRead::Done(t) => {
@@ -35,7 +35,7 @@ fn tell(r: TimestampRead, value: &mut u64) -> u32
 // Timestamp::from_pts_bytes
 #[no_mangle]
 pub extern "C" fn cmv_timestamp_from_pts_bytes(buf: &[u8], value: &mut u64) -> u32
-    ensures { λ w. ⌜ Told (readPrefixed ptsPrefix (now (buf .entry))) w (now (value .entry) ∷ []) (now (value .exit) ∷ []) ⌝ }
+    ensures { λ w. ⌜ Reports (readPrefixed ptsPrefix (now (buf .entry))) w (now (value .entry) ∷ []) (now (value .exit) ∷ []) ⌝ }
 {
     tell(Timestamp::from_pts_bytes(buf), value)
 }
@@ -43,7 +43,7 @@ pub extern "C" fn cmv_timestamp_from_pts_bytes(buf: &[u8], value: &mut u64) -> u
 // Timestamp::from_dts_bytes
 #[no_mangle]
 pub extern "C" fn cmv_timestamp_from_dts_bytes(buf: &[u8], value: &mut u64) -> u32
-    ensures { λ w. ⌜ Told (readPrefixed dtsPrefix (now (buf .entry))) w (now (value .entry) ∷ []) (now (value .exit) ∷ []) ⌝ }
+    ensures { λ w. ⌜ Reports (readPrefixed dtsPrefix (now (buf .entry))) w (now (value .entry) ∷ []) (now (value .exit) ∷ []) ⌝ }
 {
     tell(Timestamp::from_dts_bytes(buf), value)
 }
@@ -51,7 +51,7 @@ pub extern "C" fn cmv_timestamp_from_dts_bytes(buf: &[u8], value: &mut u64) -> u
 // Timestamp::from_bytes
 #[no_mangle]
 pub extern "C" fn cmv_timestamp_from_bytes(buf: &[u8], value: &mut u64) -> u32
-    ensures { λ w. ⌜ Told (readStamp (now (buf .entry))) w (now (value .entry) ∷ []) (now (value .exit) ∷ []) ⌝ }
+    ensures { λ w. ⌜ Reports (readStamp (now (buf .entry))) w (now (value .entry) ∷ []) (now (value .exit) ∷ []) ⌝ }
 {
     tell(Timestamp::from_bytes(buf), value)
 }
@@ -59,7 +59,7 @@ pub extern "C" fn cmv_timestamp_from_bytes(buf: &[u8], value: &mut u64) -> u32
 // Timestamp::from_u64, and its value
 #[no_mangle]
 pub extern "C" fn cmv_timestamp_from_u64(val: u64, value: &mut u64) -> u32
-    ensures { λ w. ⌜ Told (makeStamp val) w (now (value .entry) ∷ []) (now (value .exit) ∷ []) ⌝ }
+    ensures { λ w. ⌜ Reports (makeStamp val) w (now (value .entry) ∷ []) (now (value .exit) ∷ []) ⌝ }
 {
     match Timestamp::from_u64(val) {
         TimestampMade::Done(t) => {
@@ -73,7 +73,7 @@ pub extern "C" fn cmv_timestamp_from_u64(val: u64, value: &mut u64) -> u32
 // Timestamp::likely_wrapped_since, of two numbers that are timestamps
 #[no_mangle]
 pub extern "C" fn cmv_timestamp_likely_wrapped_since(val: u64, since: u64, wrapped: &mut u64) -> u32
-    ensures { λ w. ⌜ Told (wrapAnswer val since) w (now (wrapped .entry) ∷ []) (now (wrapped .exit) ∷ []) ⌝ }
+    ensures { λ w. ⌜ Reports (wrapAnswer val since) w (now (wrapped .entry) ∷ []) (now (wrapped .exit) ∷ []) ⌝ }
 {
     let TimestampMade::Done(a) = Timestamp::from_u64(val) else {
         return OUT_OF_RANGE;
@@ -88,7 +88,7 @@ pub extern "C" fn cmv_timestamp_likely_wrapped_since(val: u64, since: u64, wrapp
 // Timestamp::MAX and Timestamp::TIMEBASE
 #[no_mangle]
 pub extern "C" fn cmv_timestamp_constants(max: &mut u64, timebase: &mut u64) -> u32
-    ensures { λ w. ⌜ Told (answer done ((2 ^ 33 - 1) ∷ 90_000 ∷ [])) w (now (max .entry) ∷ now (timebase .entry) ∷ [])
+    ensures { λ w. ⌜ Reports (answer done ((2 ^ 33 - 1) ∷ 90_000 ∷ [])) w (now (max .entry) ∷ now (timebase .entry) ∷ [])
         (now (max .exit) ∷ now (timebase .exit) ∷ []) ⌝ }
 {
     *max = Timestamp::MAX.value();

@@ -15,7 +15,7 @@ use Rattle.machine.specs.Step.{other, judged, Outcome, stepOf, logOf}
 use Rattle.machine.specs.Run.{runJudged, Reported, reportOf, ranLog}
 use Rattle.machine.specs.Row.{machineOf, rowOf, stepBy, rowStep, rowStepOf, runBy, rowRun, rowRunOf}
 use Rattle.log.specs.declared.Event.{Event}
-use Rattle.host.specs.Told.{Told}
+use Rattle.host.specs.Reports.{Reports}
 use Rattle.host.proofs.Laws.{told, told-as}
 use Rattle.gather.specs.declared.Lies.{Lies}
 use Rattle.gather.specs.declared.Gathering.{Gathering}
@@ -94,11 +94,11 @@ module _ (r : gather-row.RowRead) (xs p : List ℕ) (v : Event) (s : List ℕ) (
       gather-moves xs′ z q = at-each xs′ (simp (sym d ∙ z) q)
 
 -- .. and told by its number alone
-strayed-told : (p : List ℕ) {lent : List ℕ} → Told (answer (judged p true 0) []) (judged p true 0) lent lent
+strayed-told : (p : List ℕ) {lent : List ℕ} → Reports (answer (judged p true 0) []) (judged p true 0) lent lent
 unfolding judged
 strayed-told p {lent} = go (other (length p) 188) (other (getD p 0 0) 0x47)
   where
-    go : (a b : Bool) → let n : ℕ = pick a 1 (pick b 2 14) in Told (answer n []) n lent lent
+    go : (a b : Bool) → let n : ℕ = pick a 1 (pick b 2 14) in Reports (answer n []) n lent lent
     go true b = told (refl, refl)
     go false true = told (refl, refl)
     go false false = told (refl, refl)
@@ -108,7 +108,7 @@ module _ (r : gather-row.RowRead) (xs p s : List ℕ) (of : r ≡ store.gatherin
   unfolding store.rowHeld
   held-by = ap (λ (t : gather-row.RowRead). store.heldBy t p s) of
 
-  pub held-strayed : {w : ℕ} {lent : List ℕ} → r ≡ gather-row.RowRead.Stray → w ≡ judged p true 0 → Told (store.rowHeld xs p s) w lent lent
+  pub held-strayed : {w : ℕ} {lent : List ℕ} → r ≡ gather-row.RowRead.Stray → w ≡ judged p true 0 → Reports (store.rowHeld xs p s) w lent lent
   held-strayed {w} e f =
       let q : store.rowHeld xs p s ≡ answer (judged p true 0) []
       = sym (ap (λ (k : ℕ). answer k []) (judged-alike p) ∙ (ap (λ (t : gather-row.RowRead). store.heldBy t p s) (sym e) ∙ held-by)) in
@@ -117,16 +117,16 @@ module _ (r : gather-row.RowRead) (xs p s : List ℕ) (of : r ≡ store.gatherin
   -- the answer of a state by what its bytes' reading gives
   module _ (g : Gathering) (e : r ≡ gather-row.RowRead.Is g) (h : HeldRead) (f : gather.givenHeld h ≡ gather.readOf g p s) where
     pub held-told : (k : HeldRead) {w : ℕ} {lent left : List ℕ} → h ≡ k
-        → Told (pick (eqb (gather.givenHeld k) 0) (answer 0 (store.partValues (g .lies) (g .count))) (answer (gather.givenHeld k) [])) w lent left
-        → Told (store.rowHeld xs p s) w lent left
+        → Reports (pick (eqb (gather.givenHeld k) 0) (answer 0 (store.partValues (g .lies) (g .count))) (answer (gather.givenHeld k) [])) w lent left
+        → Reports (store.rowHeld xs p s) w lent left
     held-told k q t =
         told-as (sym (ap (λ (z : ℕ). pick (eqb z 0) (answer 0 (store.partValues (g .lies) (g .count))) (answer z [])) (ap gather.givenHeld (sym q) ∙ f)
         ∙ (ap (λ (t : gather-row.RowRead). store.heldBy t p s) (sym e) ∙ held-by))) t
 
     -- the bytes of a packet, and those of a store
     module _ (x y z : ℕ) (q : h ≡ HeldRead.Done) where
-      pub held-in-packet : (a : ℕ) → g .lies ≡ Lies.Packet a → Told (store.rowHeld xs p s) 0 (x ∷ y ∷ z ∷ []) (0 ∷ a ∷ g .count ∷ [])
+      pub held-in-packet : (a : ℕ) → g .lies ≡ Lies.Packet a → Reports (store.rowHeld xs p s) 0 (x ∷ y ∷ z ∷ []) (0 ∷ a ∷ g .count ∷ [])
       held-in-packet a e = held-told HeldRead.Done q (told (refl, rw e))
 
-      pub held-in-store : g .lies ≡ Lies.Store → Told (store.rowHeld xs p s) 0 (x ∷ y ∷ z ∷ []) (1 ∷ 0 ∷ g .count ∷ [])
+      pub held-in-store : g .lies ≡ Lies.Store → Reports (store.rowHeld xs p s) 0 (x ∷ y ∷ z ∷ []) (1 ∷ 0 ∷ g .count ∷ [])
       held-in-store e = held-told HeldRead.Done q (told (refl, rw e))

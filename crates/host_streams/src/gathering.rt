@@ -4,7 +4,7 @@ ghost use mathlib.Core.List.{[], _∷_};
 ghost use Rattle.log.specs.Entry.{event};
 ghost use Rattle.gather.specs.Gather.{verdictNumber};
 ghost use Rattle.gather.specs.Row.{moves, rowGather, rowGatherOf, rowHeld};
-ghost use Rattle.host.specs.Told.{Told};
+ghost use Rattle.host.specs.Reports.{Reports};
 use crate::strayed;
 use gather::HeldRead;
 use gather::Lies;
@@ -86,7 +86,7 @@ pub extern "C" fn cmv_gather_bytes(
     place: &mut u64,
     length: &mut u64,
 ) -> u32
-    ensures { λ w. ⌜ Told (rowHeld (now (state .entry)) (now (packet .entry)) (now (store .entry))) w
+    ensures { λ w. ⌜ Reports (rowHeld (now (state .entry)) (now (packet .entry)) (now (store .entry))) w
         (now (slice .entry) ∷ now (place .entry) ∷ now (length .entry) ∷ [])
         (now (slice .exit) ∷ now (place .exit) ∷ now (length .exit) ∷ []) ⌝ }
 {

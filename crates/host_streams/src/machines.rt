@@ -3,7 +3,7 @@ ghost use mathlib.Core.Path.{_≡_};
 ghost use mathlib.Core.List.{[], _∷_};
 ghost use Rattle.log.specs.Entry.{readEntry};
 ghost use Rattle.machine.specs.Step.{verdictNumber};
-ghost use Rattle.host.specs.Told.{Told};
+ghost use Rattle.host.specs.Reports.{Reports};
 ghost use Rattle.machine.specs.Row.{rowStep, rowStepOf, rowRun, rowRunOf};
 use crate::strayed;
 use host::numbers::DONE;
@@ -96,7 +96,7 @@ pub extern "C" fn cmv_log_entry_at(
     place: &mut u64,
     length: &mut u64,
 ) -> u32
-    ensures { λ w. ⌜ Told (readEntry (now (log .entry)) at) w
+    ensures { λ w. ⌜ Reports (readEntry (now (log .entry)) at) w
         (now (kind .entry) ∷ now (index .entry) ∷ now (place .entry) ∷ now (length .entry) ∷ [])
         (now (kind .exit) ∷ now (index .exit) ∷ now (place .exit) ∷ now (length .exit) ∷ []) ⌝ }
 {

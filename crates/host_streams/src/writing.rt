@@ -3,7 +3,7 @@
 ghost use mathlib.Core.Path.{_≡_};
 ghost use mathlib.Core.List.{[], _∷_};
 ghost use Rattle.writer.specs.Writer.{writeOf, outputOf};
-ghost use Rattle.host.specs.Told.{Told};
+ghost use Rattle.host.specs.Reports.{Reports};
 ghost use Rattle.host_streams.specs.Writing.{timesOf, escrOf, rateOf, byteOf, crcOf, route, unit};
 use host::numbers::BAD_FIELD;
 use host::numbers::DONE;
@@ -93,7 +93,7 @@ pub extern "C" fn cmv_write(
     out: &mut [u8],
     count: &mut u64,
 ) -> u32
-    ensures { λ w. ⌜ Told (writeOf (route pid counter)
+    ensures { λ w. ⌜ Reports (writeOf (route pid counter)
         (unit id bounded priority alignment copyright original (timesOf times pts dts) (escrOf «escr_there» «escr_base» «escr_extension»)
         (rateOf «rate_there» rate) (byteOf «trick_there» trick) (byteOf «copy_there» copy) (crcOf «crc_there» crc))
         (now (payload .entry)) (now (out .entry))) w (now (count .entry) ∷ []) (now (count .exit) ∷ [])

@@ -4,16 +4,16 @@
 use mathlib.Core.Path.{_≡_}
 use mathlib.Core.List.{List}
 use Prim.Native.Nat.{ℕ}
-use Rattle.host.specs.Told.{Told}
-use Rattle.host.proofs.Theorems.{one-told}
+use Rattle.host.specs.Reports.{Reports}
+use Rattle.host.proofs.Theorems.{one-report}
 use Rattle.host_whole.specs.Whole.{packetFields, headerFields, contentsFields}
 
 module _ (xs lent : List ℕ) (v w : ℕ) (left left′ : List ℕ) where
-  pub one-packet : Told (packetFields xs) v lent left → Told (packetFields xs) w lent left′ → (v ≡ w) × (left ≡ left′)
-  one-packet = one-told (packetFields xs) lent v w left left′
+  pub one-packet : Reports (packetFields xs) v lent left → Reports (packetFields xs) w lent left′ → (v ≡ w) × (left ≡ left′)
+  one-packet = one-report (packetFields xs) lent v w left left′
 
-  pub one-header : Told (headerFields xs) v lent left → Told (headerFields xs) w lent left′ → (v ≡ w) × (left ≡ left′)
-  one-header = one-told (headerFields xs) lent v w left left′
+  pub one-header : Reports (headerFields xs) v lent left → Reports (headerFields xs) w lent left′ → (v ≡ w) × (left ≡ left′)
+  one-header = one-report (headerFields xs) lent v w left left′
 
-  pub one-contents : Told (contentsFields xs) v lent left → Told (contentsFields xs) w lent left′ → (v ≡ w) × (left ≡ left′)
-  one-contents = one-told (contentsFields xs) lent v w left left′
+  pub one-contents : Reports (contentsFields xs) v lent left → Reports (contentsFields xs) w lent left′ → (v ≡ w) × (left ≡ left′)
+  one-contents = one-report (contentsFields xs) lent v w left left′

@@ -9,11 +9,11 @@ use Rattle.bits.specs.Numbers.{done}
 use Rattle.packet.specs.Packet.{tried, readFlag, errorBit, startBit, priorityBit, readPid, readCounter, readAdaptation}
 use Rattle.packet.specs.Packet.{readPayload as packetPayload}
 use Rattle.pes.specs.Head.{readHead, readStreamId, readLength}
-use Rattle.pes.specs.Head.{readContents as headContents}
+use Rattle.pes.specs.Head.{readContentsPart}
 use Rattle.contents.specs.Contents.{scramblingBit, priorityBit as pesPriorityBit, alignmentBit, copyrightBit, originalBit, flagsBit, dataLengthBit}
 use Rattle.contents.specs.Contents.{readContents, readPtsDts, readEscr, readEsRate, readCopyInfo, readCrc, readExtension, readPayload}
 use Rattle.contents.specs.Trick.{readTrick, readRawTrick}
-use Rattle.host.specs.Told.{word, outs}
+use Rattle.host.specs.Reports.{word, outs}
 use Rattle.host.specs.Packets.{readScrambling, readControl}
 
 -- the k numbers that an entry leaves where zeros are lent: 0 for those that its answer has none for, and where it is refused
@@ -48,7 +48,7 @@ headerFields xs =
     (answer done
     (numbers 2 (readStreamId xs)
     ++ (numbers 2 (readLength xs)
-    ++ numbers 3 (headContents xs))))
+    ++ numbers 3 (readContentsPart xs))))
 
 -- the fields that parsed contents always have (the same table): PES_scrambling_control, PES_priority, data_alignment_indicator, copyright,
 -- original_or_copy, the eight flags as one byte, PES_header_data_length

@@ -1,5 +1,5 @@
 // Heads of PES packets at one call.
-ghost use Rattle.host.specs.Told.{Told};
+ghost use Rattle.host.specs.Reports.{Reports};
 ghost use Rattle.host_whole.specs.Whole.{headerFields};
 use host::heads::cmv_pes_header_contents;
 use host::heads::cmv_pes_header_from_bytes;
@@ -11,7 +11,7 @@ use host::numbers::DONE;
 // what follows the head
 #[no_mangle]
 pub extern "C" fn cmv_pes_header_fields(buf: &[u8], fields: &mut [u64; 7]) -> u32
-    ensures { λ w. ⌜ Told (headerFields (now (buf .entry))) w (now (fields .entry)) (now (fields .exit)) ⌝ }
+    ensures { λ w. ⌜ Reports (headerFields (now (buf .entry))) w (now (fields .entry)) (now (fields .exit)) ⌝ }
 {
     let word = cmv_pes_header_from_bytes(buf);
     if word != DONE {

@@ -1,5 +1,5 @@
 // Packets at one call.
-ghost use Rattle.host.specs.Told.{Told};
+ghost use Rattle.host.specs.Reports.{Reports};
 ghost use Rattle.host_whole.specs.Whole.{packetFields};
 use host::numbers::DONE;
 use host::packets::cmv_packet_adaptation_control;
@@ -17,7 +17,7 @@ use host::packets::cmv_packet_try_new;
 // word, place and length of the adaptation field, and of the payload
 #[no_mangle]
 pub extern "C" fn cmv_packet_fields(packet: &[u8], fields: &mut [u64; 15]) -> u32
-    ensures { λ w. ⌜ Told (packetFields (now (packet .entry))) w (now (fields .entry)) (now (fields .exit)) ⌝ }
+    ensures { λ w. ⌜ Reports (packetFields (now (packet .entry))) w (now (fields .entry)) (now (fields .exit)) ⌝ }
 {
     let word = cmv_packet_try_new(packet);
     if word != DONE {

@@ -5,7 +5,7 @@ ghost use Rattle.bits.specs.Numbers.{done};
 ghost use Rattle.contents.specs.Contents.{readContents, readPtsDts, readEscr, readEsRate, readCopyInfo, readCrc};
 ghost use Rattle.contents.specs.Contents.{readExtension, readPayload};
 ghost use Rattle.contents.specs.Trick.{readTrick, readRawTrick};
-ghost use Rattle.host.specs.Told.{Told};
+ghost use Rattle.host.specs.Reports.{Reports};
 ghost use Rattle.host_whole.specs.Whole.{numbers, row, fixedFields, contentsFields};
 use host::numbers::DONE;
 use host::numbers::Pair;
@@ -159,7 +159,7 @@ fn payload(buf: &[u8]) -> Pair
 // PTS and DTS, ESCR, ES rate, trick mode, raw trick mode, copy info, CRC and extension; then place and length of the payload
 #[no_mangle]
 pub extern "C" fn cmv_pes_contents_fields(buf: &[u8], fields: &mut [u64; 34]) -> u32
-    ensures { λ w. ⌜ Told (contentsFields (now (buf .entry))) w (now (fields .entry)) (now (fields .exit)) ⌝ }
+    ensures { λ w. ⌜ Reports (contentsFields (now (buf .entry))) w (now (fields .entry)) (now (fields .exit)) ⌝ }
 {
     let word = cmv_pes_contents_from_bytes(buf);
     if word != DONE {

@@ -26,7 +26,7 @@ use Rattle.pes.specs.declared.StreamId.the-variants.{SlPacketizedStream,
 use Rattle.pes.specs.declared.StreamId.the-variants.{ReservedDataStream, ProgramStreamDirectory, Unknown}
 use Rattle.pes.specs.Stream.{givenId, kindOf, idValues, readId, parsedId}
 use Rattle.pes.specs.declared.HeadRead.{HeadRead}
-use Rattle.pes.specs.Head.{givenHead, notHead, readHead, readStreamId, readLength, readContents, contentsPart, idOf, packetLength}
+use Rattle.pes.specs.Head.{givenHead, notHead, readHead, readStreamId, readLength, readContentsPart, contentsPart, idOf, packetLength}
 
 -- ---- the numbers of an id, over the ranges; at a single id the definition computes
 
@@ -106,7 +106,7 @@ module _ (xs : List ℕ) where
   head-done l a b c = simp (le-ltb (length xs) 6 l, eq-eqb (field xs 0 24) 1 (omega (arith, prefix-is xs)))
 
 -- what is known where `contents` accepts the head: that it is accepted, and kind, place and length of what follows it
-pub contents-known : (xs : List ℕ) (k p n : ℕ) → answer 0 (k ∷ p ∷ n ∷ []) ≡ readContents xs
+pub contents-known : (xs : List ℕ) (k p n : ℕ) → answer 0 (k ∷ p ∷ n ∷ []) ≡ readContentsPart xs
     → Headed xs × (k ≡ truth (parsedId (idOf xs))) × (p ≡ 6) × (n ≡ length xs - 6)
 contents-known xs k p n f =
     let t = answer 0 (truth (parsedId (idOf xs)) ∷ 6 ∷ (length xs - 6) ∷ []) in
@@ -163,15 +163,15 @@ module _ (xs : List ℕ) (r : HeadRead) (g : givenHead r ≡ readHead xs) where
       pub bounded : (u * 256 + v ≡ 0 → ⊥) → answer 0 (1 ∷ (u * 256 + v) ∷ []) ≡ readLength xs
       bounded h = sym (accepted .is _ ∙ simp (length-is, ne-eqb (u * 256 + v) 0 h))
 
-    contents-are : (t : Bool) → Known xs → t ≡ parsedId (getD xs 3 0) → answer 0 (truth t ∷ 6 ∷ (length xs - 6) ∷ []) ≡ readContents xs
+    contents-are : (t : Bool) → Known xs → t ≡ parsedId (getD xs 3 0) → answer 0 (truth t ∷ 6 ∷ (length xs - 6) ∷ []) ≡ readContentsPart xs
     unfolding idOf
     contents-are t k f = sym (accepted .is _ ∙ rw (byte-field xs 3 (k 3 .fits), f))
 
     module _ (k : Known xs) (s : StreamId) (t : Bool) (f : givenId s ≡ readId (getD xs 3 0)) (h : t ≡ parsedId (kindOf s)) where
-      pub contents-parsed : t ≡ true → answer 0 (1 ∷ 6 ∷ (length xs - 6) ∷ []) ≡ readContents xs
+      pub contents-parsed : t ≡ true → answer 0 (1 ∷ 6 ∷ (length xs - 6) ∷ []) ≡ readContentsPart xs
       contents-parsed q = contents-are true k (sym q ∙ (h ∙ parsed-agrees _ s (k 3 .fits) f))
 
-      pub contents-bare : t ≡ false → answer 0 (0 ∷ 6 ∷ (length xs - 6) ∷ []) ≡ readContents xs
+      pub contents-bare : t ≡ false → answer 0 (0 ∷ 6 ∷ (length xs - 6) ∷ []) ≡ readContentsPart xs
       contents-bare q = contents-are false k (sym q ∙ (h ∙ parsed-agrees _ s (k 3 .fits) f))
 
     pub part-rests : take (length xs - 6) (drop 6 xs) ≡ partOf (contentsPart xs) xs

@@ -64,8 +64,8 @@ abbrev pub readLength : List ℕ → Answer
 readLength xs = unless (notHead xs) (pick (eqb (packetLength xs) 0) (answer done (0 ∷ [])) (answer done (1 ∷ packetLength xs ∷ [])))
 
 -- what follows the six bytes: its kind, its place and its length
-abbrev pub readContents : List ℕ → Answer
-readContents xs = unless (notHead xs) (answer done (truth (parsedId (idOf xs)) ∷ 6 ∷ (length xs - 6) ∷ []))
+abbrev pub readContentsPart : List ℕ → Answer
+readContentsPart xs = unless (notHead xs) (answer done (truth (parsedId (idOf xs)) ∷ 6 ∷ (length xs - 6) ∷ []))
 
 -- the same as a part: place and length alone
 abbrev pub contentsPart : List ℕ → Answer

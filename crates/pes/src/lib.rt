@@ -3,7 +3,7 @@ ghost use mathlib.Core.Path.{_≡_};
 ghost use Rattle.bits.specs.Answer.{partOf};
 ghost use Rattle.pes.specs.Stream.{givenId, kindOf, readId, parsedId};
 ghost use Rattle.pes.specs.Head.{givenHead, givenStreamId, givenLength, givenContents, readHead, readStreamId, readLength};
-ghost use Rattle.pes.specs.Head.{readContents, contentsPart};
+ghost use Rattle.pes.specs.Head.{readContentsPart, contentsPart};
 use bits::wide;
 
 // What a stream id stands for.
@@ -159,7 +159,7 @@ pub fn pes_packet_length(buf: &[u8]) -> LengthRead
 
 // The kind of what follows the head, and where it lies.
 pub fn contents(buf: &[u8]) -> ContentsRead
-    ensures { λ r. ⌜ givenContents r ≡ readContents (now (buf .entry)) ⌝ }
+    ensures { λ r. ⌜ givenContents r ≡ readContentsPart (now (buf .entry)) ⌝ }
 {
     match from_bytes(buf) {
         HeadRead::ShortHeader => ContentsRead::ShortHeader,

@@ -16,11 +16,11 @@ use Rattle.bits.proofs.Checks.{refused-by, unless-number, unless-most}
 use Rattle.bits.proofs.Parts.{part-rest}
 use Rattle.pes.specs.declared.ContentsRead.{ContentsRead}
 use Rattle.pes.specs.Stream.{parsedId}
-use Rattle.pes.specs.Head.{notHead, idOf, givenContents, readContents}
+use Rattle.pes.specs.Head.{notHead, idOf, givenContents, readContentsPart}
 use Rattle.pes.proofs.Laws.{contents-known}
 use Rattle.contents.specs.declared.PartRead.{PartRead}
 use Rattle.contents.specs.declared.Refusal.{Refusal}
-use Rattle.contents.specs.Contents.{notContents, readPayload, readContents as readParsed}
+use Rattle.contents.specs.Contents.{notContents, readPayload, readContentsPart as readParsed}
 use Rattle.contents.specs.Given.{refusal, givenPart}
 use Rattle.contents.proofs.Laws.{payload-within}
 use Rattle.pes_header.specs.declared.PayloadRead.{PayloadRead}
@@ -86,19 +86,19 @@ unfolding notContents
 contents-number c a z = (unless-number (notContents c) a (answer 0 []) z, unless-most (notContents c) 8 (omega arith) a (omega arith))
 
 module _ (xs : List ℕ) where
-  pub refused-head : (r s : ContentsRead) → r ≡ s → givenContents r ≡ readContents xs → 0 < givenContents s .number
+  pub refused-head : (r s : ContentsRead) → r ≡ s → givenContents r ≡ readContentsPart xs → 0 < givenContents s .number
       → givenContents s ≡ headerPayload xs
   unfolding headerPayload
   refused-head r s e g h = refused-by (notHead xs) _ refl (givenContents s) h (sym (ap givenContents e) ∙ g) _
 
-  pub bare : (r : ContentsRead) (p n : ℕ) → r ≡ ContentsRead.Payload p n → givenContents r ≡ readContents xs
+  pub bare : (r : ContentsRead) (p n : ℕ) → r ≡ ContentsRead.Payload p n → givenContents r ≡ readContentsPart xs
       → answer 0 (p ∷ n ∷ []) ≡ headerPayload xs
   unfolding headerPayload
   bare r p n e g =
       let k = contents-known xs 0 p n (sym (ap givenContents e) ∙ g) in
       rw (k .2, k .3) (sym (k .0 .is _ ∙ rw (is-false (parsedId (idOf xs)) (k .1)) (k .0 .is _)))
 
-  module _ (r : ContentsRead) (p n : ℕ) (e : r ≡ ContentsRead.Parsed p n) (g : givenContents r ≡ readContents xs) where
+  module _ (r : ContentsRead) (p n : ℕ) (e : r ≡ ContentsRead.Parsed p n) (g : givenContents r ≡ readContentsPart xs) where
     pub parsed-there : (p ≡ 6) × (6 ≤ length xs)
     parsed-there = let k = contents-known xs 1 p n (sym (ap givenContents e) ∙ g) in (k .2, k .0 .long)
 

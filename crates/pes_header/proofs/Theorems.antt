@@ -20,10 +20,10 @@ use Rattle.pes.specs.declared.LengthRead.{LengthRead}
 use Rattle.pes.specs.declared.ContentsRead.{ContentsRead}
 use Rattle.pes.specs.Stream.{parsedId}
 use Rattle.pes.specs.Head.{givenHead, givenStreamId, givenLength, givenContents}
-use Rattle.pes.specs.Head.{notHead, idOf, readHead, readStreamId, readLength, readContents, contentsPart}
+use Rattle.pes.specs.Head.{notHead, idOf, readHead, readStreamId, readLength, readContentsPart, contentsPart}
 use Rattle.pes.proofs.Laws.{Headed, headed-done, contents-within}
 use Rattle.pes.proofs.Theorems.{one-head, one-stream-id, one-length, one-contents}
-use Rattle.contents.specs.Contents.{readPayload, readContents as readParsed}
+use Rattle.contents.specs.Contents.{readPayload, readContentsPart as readParsed}
 use Rattle.contents.proofs.Laws.{payload-within as contents-payload-within}
 use Rattle.pes_header.specs.declared.PesHeader.{PesHeader}
 use Rattle.pes_header.specs.declared.PayloadRead.{PayloadRead}
@@ -67,8 +67,8 @@ module _ (h : PesHeader) (xs : List ℕ) (e : now (h .buf) ≡ xs) where
   pub kept-length : (a b : LengthRead) → givenLength a ≡ readLength (now (h .buf)) → givenLength b ≡ readLength xs → a ≡ b
   kept-length a b p q = one-length (readLength xs) a b (p ∙ ap readLength e) q
 
-  pub kept-contents : (a b : ContentsRead) → givenContents a ≡ readContents (now (h .buf)) → givenContents b ≡ readContents xs → a ≡ b
-  kept-contents a b p q = one-contents (readContents xs) a b (p ∙ ap readContents e) q
+  pub kept-contents : (a b : ContentsRead) → givenContents a ≡ readContentsPart (now (h .buf)) → givenContents b ≡ readContentsPart xs → a ≡ b
+  kept-contents a b p q = one-contents (readContentsPart xs) a b (p ∙ ap readContentsPart e) q
 
   pub kept-payload-at : (a b : PayloadRead) → givenPayload a ≡ headerPayload (now (h .buf)) → givenPayload b ≡ headerPayload xs → a ≡ b
   kept-payload-at a b p q = one-payload (headerPayload xs) a b (p ∙ ap headerPayload e) q

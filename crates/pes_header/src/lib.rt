@@ -2,7 +2,7 @@
 ghost use mathlib.Core.Path.{_≡_};
 ghost use Rattle.bits.specs.Answer.{partOf};
 ghost use Rattle.pes.specs.Head.{givenHead, givenStreamId, givenLength, givenContents};
-ghost use Rattle.pes.specs.Head.{readHead, readStreamId, readLength, readContents, contentsPart};
+ghost use Rattle.pes.specs.Head.{readHead, readStreamId, readLength, readContentsPart, contentsPart};
 ghost use Rattle.contents.specs.Given.{refusal};
 ghost use Rattle.pes_header.specs.Payload.{givenPayload, headerPayload, payloadBytes};
 use bits::part;
@@ -100,7 +100,7 @@ impl<'a> PesHeader<'a> {
     }
 
     pub fn contents(self) -> ContentsRead
-        ensures { λ r. ⌜ givenContents r ≡ readContents (now (self .entry .buf)) ⌝ }
+        ensures { λ r. ⌜ givenContents r ≡ readContentsPart (now (self .entry .buf)) ⌝ }
     {
         pes::contents(self.buf)
     }

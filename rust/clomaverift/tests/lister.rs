@@ -2,8 +2,8 @@
 
 use clomaverift::{Event, EventKind, Machine, Packet, Ran};
 
-const INPUT: &[u8] = include_bytes!(concat!(env!("CARGO_MANIFEST_DIR"), "/../../crates/events/stdin"));
-const OUTPUT: &str = include_str!(concat!(env!("CARGO_MANIFEST_DIR"), "/../../crates/events/stdout"));
+const INPUT: &[u8] = include_bytes!(concat!(env!("CARGO_MANIFEST_DIR"), "/../../crates/lister/stdin"));
+const OUTPUT: &str = include_str!(concat!(env!("CARGO_MANIFEST_DIR"), "/../../crates/lister/stdout"));
 
 fn line(event: Event) -> String {
     let name = match event.kind {

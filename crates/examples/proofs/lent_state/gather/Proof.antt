@@ -1,5 +1,5 @@
 -- `gather` of src/lent_state.rt: the walk of proofs/Lent.antt with one parameter more, the event. A gathering state is copied into a local,
--- which is lent to `gather_lent` for a lifetime that is made for the call, and is given back beside the verdict. The store goes to the
+-- which is lent to `gather_in_place` for a lifetime that is made for the call, and is given back beside the verdict. The store goes to the
 -- callee at its own lifetime, share and name.
 -- Assumes nothing.
 use mathlib.Core.Path.{_≡_, refl, ap, subst}
@@ -62,10 +62,10 @@ use Rattle.gather.proofs.Gathered as S
 use Rattle.gather.proofs.Gathered.Laws as S′
 use Rattle.gather.proofs.Verdict as E
 use Rattle.gather.proofs.Verdict.Laws as E′
-use Rattle.lent.proofs.gather_lent as lent
-use Rattle.lent.proofs.gather_lent.Symbol as callee-def
-use Rattle.lent.proofs.gather_lent.Symbol.{name as #callee}
-use Rattle.lent.proofs.gather_lent.Met as callee-thm
+use Rattle.in_place.proofs.gather_in_place as lent
+use Rattle.in_place.proofs.gather_in_place.Symbol as callee-def
+use Rattle.in_place.proofs.gather_in_place.Symbol.{name as #callee}
+use Rattle.in_place.proofs.gather_in_place.Met as callee-thm
 use Rattle.examples.proofs.Object.{silent}
 use Rattle.examples.proofs.lent_state.gather.Key.{name as #self}
 use Rattle.examples.proofs.lent_state.gather as self
@@ -303,5 +303,5 @@ gather-spec 𝓤 H 𝓜 𝓖 𝓡 =
     entered 𝓤 H (tripleOf 𝓤 H (𝓖 .A) self.signature (self.spec 𝓤 H (𝓖 .A) (𝓜 .mem) (𝓡 .run)))
     (tables 𝓤 H 𝓜 𝓡 code.env .C) (tables 𝓤 H 𝓜 𝓡 code.env .Λ) #self code.function (code.unfolded 𝓤 H 𝓜 𝓡)
     (gather-meets 𝓤 H (𝓖 .A) (givenOf 𝓤 H 𝓜 𝓖) (𝓜 .mem) (𝓡 .run) (tablesOf 𝓤 H 𝓜 (tables 𝓤 H 𝓜 𝓡 code.env))
-    (cited 𝓤 H (Callee 𝓤 H (𝓖 .A) (𝓜 .mem) (𝓡 .run)) 𝓜 𝓡 code.env #callee callee-def.routine code.calls-lent·gather-lent
+    (cited 𝓤 H (Callee 𝓤 H (𝓖 .A) (𝓜 .mem) (𝓡 .run)) 𝓜 𝓡 code.env #callee callee-def.routine code.calls-lent·gather-in-place
     (callee-thm.met 𝓤 H 𝓜 𝓖 𝓡)))

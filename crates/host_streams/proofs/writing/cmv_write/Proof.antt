@@ -11,7 +11,7 @@ use Rattle.writer.specs.declared.Crc.{Crc}
 use Rattle.writer.specs.declared.Unit.{Unit as WrittenUnit}
 use Rattle.writer.specs.declared.Written.{Written}
 use Rattle.writer.specs.Writer.{givenWritten, writeOf, outputOf}
-use Rattle.host.specs.Told.{Told}
+use Rattle.host.specs.Reports.{Reports}
 use Rattle.host.proofs.Laws.{told, told-of}
 use borrow.Author.Needs.{needs}
 use Rattle.host_streams.proofs.writing.cmv_write.Statement.{statement}
@@ -39,8 +39,8 @@ same : {i : ℕ} {b p a c o : Bool} {t t′ : Times} {e e′ : Escr} {r r′ : R
 same et ee er ek ey es = rw (et, ee, er, ek, ey, es)
 
 written : (q : Route) {u u′ : WrittenUnit} (xs ys : List ℕ) {ys′ : List ℕ} {w k : Written} {n : ℕ} {lent left : List ℕ} → w ≡ k
-    → (givenWritten w ≡ writeOf q u xs ys) × (ys′ ≡ outputOf q u xs ys) → u ≡ u′ → Told (givenWritten k) n lent left
-    → Told (writeOf q u′ xs ys) n lent left × (ys′ ≡ outputOf q u′ xs ys)
+    → (givenWritten w ≡ writeOf q u xs ys) × (ys′ ≡ outputOf q u xs ys) → u ≡ u′ → Reports (givenWritten k) n lent left
+    → Reports (writeOf q u′ xs ys) n lent left × (ys′ ≡ outputOf q u′ xs ys)
 written q xs ys f h e t = rw (← e) (told-of givenWritten f (h .0) t, h .1)
 
 returns : tie.Need-returns

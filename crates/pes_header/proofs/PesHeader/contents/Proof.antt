@@ -10,7 +10,7 @@ use denote.RattleType.{RattleType}
 use denote.Ref.{RefT, now}
 use denote.Triple.Spec.{tripleOf}
 use denote.Triple.Table.{entered, cited}
-use Rattle.pes.specs.Head.{givenContents, readContents}
+use Rattle.pes.specs.Head.{givenContents, readContentsPart}
 use Rattle.pes.proofs.ContentsRead as E
 use Rattle.pes.proofs.ContentsRead.Laws as E′
 use Rattle.pes_header.proofs.Thin.{Callee, thin}
@@ -27,7 +27,7 @@ F = λ κs. E.the-row
 
 -- what `pes::contents` says of its result
 abbrev Fact : (κs : Lfts 1) → RefT (List ℕ) → F κs .Denot → Type 0
-Fact κs x r = givenContents r ≡ readContents (now x)
+Fact κs x r = givenContents r ≡ readContentsPart (now x)
 
 pub contents-spec : {M : Type 1} → stated.statement M
 unfolding code.routine tablesOf
