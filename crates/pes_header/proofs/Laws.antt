@@ -20,7 +20,7 @@ use Rattle.pes.specs.Head.{notHead, idOf, givenContents, readContentsPart}
 use Rattle.pes.proofs.Laws.{contents-known}
 use Rattle.contents.specs.declared.PartRead.{PartRead}
 use Rattle.contents.specs.declared.Refusal.{Refusal}
-use Rattle.contents.specs.Contents.{notContents, readPayload, readContentsPart as readParsed}
+use Rattle.contents.specs.Contents.{notContents, readPayload, readContents}
 use Rattle.contents.specs.Given.{refusal, givenPart}
 use Rattle.contents.proofs.Laws.{payload-within}
 use Rattle.pes_header.specs.declared.PayloadRead.{PayloadRead}
@@ -81,7 +81,7 @@ module _ (k : ℕ) (a : Answer) where
 
 -- what is read of contents is refused by their number, which is at most 8
 pub contents-number : (c : List ℕ) (a : Answer) → a .number ≡ 0
-    → (unless (notContents c) a .number ≡ readParsed c .number) × (unless (notContents c) a .number ≤ 8)
+    → (unless (notContents c) a .number ≡ readContents c .number) × (unless (notContents c) a .number ≤ 8)
 unfolding notContents
 contents-number c a z = (unless-number (notContents c) a (answer 0 []) z, unless-most (notContents c) 8 (omega arith) a (omega arith))
 

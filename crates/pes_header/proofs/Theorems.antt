@@ -23,7 +23,7 @@ use Rattle.pes.specs.Head.{givenHead, givenStreamId, givenLength, givenContents
 use Rattle.pes.specs.Head.{notHead, idOf, readHead, readStreamId, readLength, readContentsPart, contentsPart}
 use Rattle.pes.proofs.Laws.{Headed, headed-done, contents-within}
 use Rattle.pes.proofs.Theorems.{one-head, one-stream-id, one-length, one-contents}
-use Rattle.contents.specs.Contents.{readPayload, readContentsPart as readParsed}
+use Rattle.contents.specs.Contents.{readPayload, readContents}
 use Rattle.contents.proofs.Laws.{payload-within as contents-payload-within}
 use Rattle.pes_header.specs.declared.PesHeader.{PesHeader}
 use Rattle.pes_header.specs.declared.PayloadRead.{PayloadRead}
@@ -117,11 +117,11 @@ module _ (xs : List ℕ) where
 
   -- THE NUMBER is the head's where that is refused, else that of the contents where the id carries such, and 0 after a bare id
   pub payload-number : headerPayload xs .number
-      ≡ andThen (readHead xs) (pick (parsedId (idOf xs)) (readParsed (drop 6 xs)) (answer 0 [])) .number
+      ≡ andThen (readHead xs) (pick (parsedId (idOf xs)) (readContents (drop 6 xs)) (answer 0 [])) .number
   payload-number = go (eqb (readHead xs .number) 0) refl (parsedId (idOf xs)) refl
     where
       go : (t : Bool) → eqb (readHead xs .number) 0 ≡ t → (k : Bool) → parsedId (idOf xs) ≡ k
-          → headerPayload xs .number ≡ pick t (pick k (readParsed (drop 6 xs)) (answer 0 [])) (readHead xs) .number
+          → headerPayload xs .number ≡ pick t (pick k (readContents (drop 6 xs)) (answer 0 [])) (readHead xs) .number
       go true e true k =
           ap (λ (a : Answer). a .number) (parsed-payload (eqb-true _ _ e) k .0)
           ∙ (later-number 6 (readPayload (drop 6 xs)) ∙ contents-number (drop 6 xs) _ refl .0)
