@@ -18,6 +18,7 @@ ARCHIVES = re.search(r"^parts=\(([\w ]+)\)", (TOP / "tools" / "common.sh").read_
 # What each crate is: one line or two.
 WORDS = {
     "bits": ["bit fields, answers,", "and their numbers"],
+    "page": ["a page of output"],
     "timestamp": ["PTS and DTS"],
     "control": ["clock references, counters,", "PIDs, control bits"],
     "pes": ["stream ids, the first", "six bytes of a PES packet"],

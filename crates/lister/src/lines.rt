@@ -1,14 +1,19 @@
 // The lines of the list.
-use crate::page::PAGE;
-use crate::page::decimal;
-use crate::page::put;
-use crate::page::text;
 use bits::wide;
 use log::EntryRead;
 use log::Event;
+use page::PAGE;
+use page::put;
+use page::text;
 
 // The log of one packet: it has at most two events, of eight bytes each.
 pub const LOG: usize = 16;
+
+fn decimal(page: &mut [u8; PAGE], used: usize, n: u64) -> usize {
+    let mut digits = [0u8; 20];
+    let count = io::decimal(n, &mut digits);
+    text(page, used, &digits[..count])
+}
 
 pub fn title(page: &mut [u8; PAGE], used: usize) -> usize {
     text(page, used, b"packet event place length\n")

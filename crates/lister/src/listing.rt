@@ -4,10 +4,10 @@ ghost use Rattle.bits.specs.Numbers.{logFull};
 ghost use Rattle.machine.specs.Step.{verdictNumber};
 use crate::lines;
 use crate::lines::LOG;
-use crate::page::PAGE;
 use machine::Machine;
 use machine::Stepped;
 use machine::Verdict;
+use page::PAGE;
 
 // The machine after the packets so far, how many bytes at the start of the block are held for a packet that is not whole yet, how
 // much of the page is used, and whether more may come.

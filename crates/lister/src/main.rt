@@ -1,7 +1,6 @@
 // Lists the events of the packets on standard input. README.md says what the lines look like.
 mod lines;
 mod listing;
-mod page;
 
 ghost use Prim.Native.Nat.{_≤_};
 ghost use lib.ListN.{length};

@@ -13,7 +13,7 @@ use answers::Answered;
 use answers::answer;
 use input::ROOM;
 use libc::STDIN_FILENO;
-use output::PAGE;
+use page::PAGE;
 
 // How many digits the line under way has, how much of the page is used, and whether more input may come.
 struct Fill {
@@ -91,5 +91,5 @@ fn main() {
     if fill.digits > 0 {
         used = reply(&line, fill.digits, &mut page, used);
     }
-    output::flush(&page, used);
+    page::flush(&page, used);
 }

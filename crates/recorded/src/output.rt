@@ -1,38 +1,7 @@
-// The output is gathered on a page, which is written when it is full: one system call for many lines. A function that adds to
-// the page gives back how much of it is then used. A write that fails is not told: what is missing shows where the output is
-// compared.
-use libc::STDOUT_FILENO;
-
-pub const PAGE: usize = 8192;
-
-// Writes the used part of the page.
-pub fn flush(page: &[u8; PAGE], used: usize) {
-    let bytes: &[u8] = page;
-    if used < PAGE {
-        io::write_all(STDOUT_FILENO, &bytes[0..used]);
-    } else {
-        io::write_all(STDOUT_FILENO, bytes);
-    }
-}
-
-fn put(page: &mut [u8; PAGE], used: usize, b: u8) -> usize {
-    if used < PAGE {
-        page[used] = b;
-        return used + 1;
-    }
-    flush(page, used);
-    page[0] = b;
-    1
-}
-
-fn text(page: &mut [u8; PAGE], mut used: usize, bytes: &[u8]) -> usize {
-    let mut i = 0;
-    while i < bytes.len() {
-        used = put(page, used, bytes[i]);
-        i += 1;
-    }
-    used
-}
+// The lines of the output.
+use page::PAGE;
+use page::put;
+use page::text;
 
 fn decimal(page: &mut [u8; PAGE], used: usize, n: u64) -> usize {
     let mut digits = [0u8; 20];
