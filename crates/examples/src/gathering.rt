@@ -1,5 +1,4 @@
-// The gathering store over a lent state: a line for each event, with the number and the fields of the state after it and the bytes so far.
-use crate::lent_state;
+// The gathering store: a line for each event, with the number and the fields of the state after it and the bytes so far.
 use crate::machines;
 use crate::machines::ENTRIES;
 use crate::machines::LOG;
@@ -51,10 +50,10 @@ fn so_far<'a>(g: Gathering, packet: &'a [u8], store: &'a [u8]) {
 // ---- calls
 
 fn take(g: Gathering, packet: &[u8], e: Event, store: &mut [u8]) -> Gathering {
-    show::words(b"gather_in_place");
+    show::words(b"gather");
     machines::event(e);
     show::comma();
-    let s = lent_state::gather(g, packet, e, store);
+    let s = gather::gather(g, packet, e, store);
     answer(s);
     let next = s.gathering;
     so_far(next, packet, store);
@@ -79,7 +78,7 @@ fn entries(stream: &[u8], log: &[u8; LOG], store: &mut [u8]) {
 // The first unit of the example has 354 bytes.
 pub fn run(stream: &[u8]) {
     let mut log = [0u8; LOG];
-    lent_state::run(Machine::new(), packets::three(stream), &mut log);
+    machine::run(Machine::new(), packets::three(stream), &mut log);
     let mut store = [0u8; 354];
     entries(stream, &log, &mut store);
 }

@@ -1,5 +1,5 @@
-// Headers, read by the object `PesHeader`: a line for each, with a group for every reader and, where the id carries parsed contents, for two
-// fields of these.
+// Headers: a line for each, with a group for every reader, the payload by the object `PesHeader`, and, where the id carries parsed contents,
+// for two fields of these.
 use crate::header_object;
 use crate::show;
 use bits::wide;
@@ -143,15 +143,15 @@ fn escr(r: EscrRead) {
 // ---- the headers
 
 fn heads(bytes: &[u8]) {
-    head(header_object::head(bytes));
-    stream_id(header_object::stream_id(bytes));
-    length(header_object::pes_packet_length(bytes));
-    contents(header_object::contents(bytes));
+    head(pes::from_bytes(bytes));
+    stream_id(pes::stream_id(bytes));
+    length(pes::pes_packet_length(bytes));
+    contents(pes::contents(bytes));
 }
 
 fn parts(bytes: &[u8]) {
-    part(header_object::contents_part(bytes));
-    payload_at(header_object::payload_at(bytes));
+    part(pes::contents_part(bytes));
+    payload_at(pes_header::payload_at(bytes));
     part(header_object::payload(bytes));
 }
 
@@ -162,7 +162,7 @@ fn parsed(contents: &[u8]) {
 
 // The fields can be asked of parsed contents alone.
 fn fields(bytes: &[u8]) {
-    match header_object::contents(bytes) {
+    match pes::contents(bytes) {
         ContentsRead::Payload {
             place: _,
             length: _,
@@ -170,7 +170,7 @@ fn fields(bytes: &[u8]) {
         ContentsRead::Parsed {
             place: _,
             length: _,
-        } => parsed(header_object::contents_part(bytes)),
+        } => parsed(pes::contents_part(bytes)),
         ContentsRead::ShortHeader => show::number(3),
         ContentsRead::BadStartCode => show::number(4),
     }

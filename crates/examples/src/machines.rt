@@ -1,5 +1,5 @@
-// The machine over a lent state: a line for each call, with its answer and the fields of the state after it, then each entry of the log.
-use crate::lent_state;
+// The machine, step by step over a lent state and by one call: a line for each call, with its answer and the fields of the state after it, then each entry of the log.
+use crate::own_state;
 use crate::packets;
 use crate::show;
 use bits::copy_at;
@@ -77,7 +77,7 @@ fn state(m: Machine, log: &[u8; LOG]) {
 // ---- calls
 
 fn step(call: &[u8], m: Machine, packet: &[u8], log: &mut [u8; LOG]) -> Machine {
-    let s = lent_state::step(m, packet, log);
+    let s = own_state::step(m, packet, log);
     let v = s.verdict;
     let after = s.machine;
     show::words(call);
@@ -98,22 +98,21 @@ fn steps(call: &[u8], m: Machine, stream: &[u8]) {
 // Packets, all by one call.
 fn all(call: &[u8], m: Machine, bytes: &[u8]) {
     let mut log = [0u8; LOG];
-    let s = lent_state::run(m, bytes, &mut log);
-    let r = s.report;
+    let r = machine::run(m, bytes, &mut log);
     let v = r.verdict;
     let ended = r.ended;
     show::words(call);
     number(v);
     show::number(r.packets as u64);
     number(ended);
-    state(s.machine, &log);
+    state(r.machine, &log);
 }
 
 // A packet that is taken, and after it one with no sync byte, which ends the run and is no refusal of it.
 fn cut_short(stream: &[u8]) {
     let mut bytes = [0u8; 376];
     copy_at(packets::packet(stream, 0), &mut bytes, 0);
-    all(b"run_in_place no_sync", Machine::new(), &bytes);
+    all(b"run no_sync", Machine::new(), &bytes);
 }
 
 // A state that is refused: no entry begins at a place of 3.
@@ -129,15 +128,15 @@ fn between_entries() -> Machine {
 pub fn run(stream: &[u8]) {
     steps(b"step_in_place", Machine::new(), stream);
     steps(b"step_in_place between_entries", between_entries(), stream);
-    all(b"run_in_place", Machine::new(), packets::three(stream));
+    all(b"run", Machine::new(), packets::three(stream));
     cut_short(stream);
     all(
-        b"run_in_place between_entries 187_bytes",
+        b"run between_entries 187_bytes",
         between_entries(),
         part(stream, 0, 187),
     );
     all(
-        b"run_in_place between_entries no_bytes",
+        b"run between_entries no_bytes",
         between_entries(),
         part(stream, 0, 0),
     );

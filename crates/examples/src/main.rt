@@ -1,10 +1,10 @@
-// Runs the examples of the request that are not proved, the object `PesHeader` and the steps over a lent state, and prints a line for each
+// Runs the examples of the request that are not proved, the object `PesHeader` and the step over a lent state, and prints a line for each
 // answer. README.md says what the numbers of a line are, and the file stdout has what must come out.
 mod gathering;
 mod header_object;
 mod headers;
-mod lent_state;
 mod machines;
+mod own_state;
 mod packets;
 mod show;
 mod timestamps;

@@ -1,4 +1,4 @@
--- `step` of src/lent_state.rt: the walk of proofs/Lent.antt, at `in_place::step_in_place`.
+-- `step` of src/own_state.rt: the walk of proofs/Own.antt, at `in_place::step_in_place`.
 -- Assumes nothing.
 use mathlib.Core.Path.{_≡_}
 use contract.Running.{givenOf, tables, tablesOf}
@@ -14,11 +14,11 @@ use Rattle.machine.proofs.Verdict.Laws as E′
 use Rattle.in_place.proofs.step_in_place.Symbol as callee-def
 use Rattle.in_place.proofs.step_in_place.Symbol.{name as #callee}
 use Rattle.in_place.proofs.step_in_place.Met as callee-thm
-use Rattle.examples.proofs.Lent.{Form, Callee, through}
-use Rattle.examples.proofs.lent_state.step.Key.{name as #self}
-use Rattle.examples.proofs.lent_state.step as self
-use Rattle.examples.proofs.lent_state.step.Statement as stated
-use Rattle.examples.proofs.lent_state.step.Code as code
+use Rattle.examples.proofs.Own.{Form, Callee, through}
+use Rattle.examples.proofs.own_state.step.Key.{name as #self}
+use Rattle.examples.proofs.own_state.step as self
+use Rattle.examples.proofs.own_state.step.Statement as stated
+use Rattle.examples.proofs.own_state.step.Code as code
 
 abbrev form : Form
 form = record {
@@ -41,4 +41,4 @@ step-spec 𝓤 H 𝓜 𝓖 𝓡 =
     entered 𝓤 H (tripleOf 𝓤 H (𝓖 .A) self.signature (self.spec 𝓤 H (𝓖 .A) (𝓜 .mem) (𝓡 .run)))
     (tables 𝓤 H 𝓜 𝓡 code.env .C) (tables 𝓤 H 𝓜 𝓡 code.env .Λ) #self code.function (code.unfolded 𝓤 H 𝓜 𝓡)
     (through form 𝓤 H (𝓖 .A) (givenOf 𝓤 H 𝓜 𝓖) #callee (tablesOf 𝓤 H 𝓜 (tables 𝓤 H 𝓜 𝓡 code.env))
-    (cited 𝓤 H (Callee form 𝓤 H (𝓖 .A)) 𝓜 𝓡 code.env #callee callee-def.routine code.calls-lent·step-in-place (callee-thm.met 𝓤 H 𝓜 𝓖 𝓡)))
+    (cited 𝓤 H (Callee form 𝓤 H (𝓖 .A)) 𝓜 𝓡 code.env #callee callee-def.routine code.calls-in-place·step-in-place (callee-thm.met 𝓤 H 𝓜 𝓖 𝓡)))

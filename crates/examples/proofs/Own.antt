@@ -1,5 +1,5 @@
--- The walk of `step` and `run` of src/lent_state.rt, once: a machine is copied into a local, which is lent to `step_in_place` or `run_in_place`,
--- and is given back beside the answer. They promise nothing: that they are safe and end is what is shown.
+-- The walk of `step` of src/own_state.rt, once: a machine is copied into a local, which is lent to `step_in_place`,
+-- and is given back beside the answer. It promises nothing: that it is safe and ends is what is shown.
 --     Form      what a function of the form calls and returns
 --     the-fn    the MIR of such a function, at the name of what it calls: each one's `code.function` computes to it
 --     through   from the theorem of what it calls, that the function meets its contract
