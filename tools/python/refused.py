@@ -1,16 +1,15 @@
 """Whether the prover refused each wrong answer in the proof of the function that gives it.
 
     refused.py                      those of crates/*/must-fail, by the logs that the gate has left in target/must-fail
-    refused.py --edits [CRATE..]    the same, of all crates or of those named, each put before the prover here
+    refused.py --check              whether their files can be tried at all, with no prover
+    refused.py --edits [CRATE..]    the same as the first, of all crates or of those named, each put before the prover here
     refused.py --mutants [CRATE..]  those of tools/mutants.txt, put before the prover here
 
-A file of must-fail holds several wrong answers, each with the lines 'wrong:', its name, and 'dies:', the function whose proof has to
-fail or a file under proofs/. rt reads the lines 'file:', 'old:' and 'new:' and passes over the others; it makes all changes of a file in
-one copy, one after another, and asks only that something is refused. A function is proved by the promises of those that it calls, never
-by their code, so a right function stays proved whatever they answer, and a wrong one is refused for itself: that is looked for here. One
-file has no function twice. What only follows from another refusal is no refusal, nor is a proof that does not fit the code's shape; where
-a proof is one term and rests on a refused one nothing else is said of it, and the two wrong answers have to stand in two files, or the
-proof gives its answers before it is closed: 'let answers = tie.spec .. in tie.close answers'.
+edits.py says what a file of must-fail holds. rt asks only that something is refused. A function is proved by the promises of those that it
+calls, never by their code, so a right function stays proved whatever they answer, and a wrong one is refused for itself: that is looked for
+here. One file has no function twice. What only follows from another refusal is no refusal, nor is a proof that does not fit the code's
+shape; where a proof is one term and rests on a refused one nothing else is said of it, and the two wrong answers have to stand in two files,
+or the proof gives its answers before it is closed: 'let answers = tie.spec .. in tie.close answers'.
 """
 
 import os
@@ -21,47 +20,13 @@ import sys
 import tempfile
 from pathlib import Path
 
-TOP = Path(__file__).resolve().parents[2]
+from edits import TOP, edit_files, read_edits, read_mutants
+from sources import functions
+
 # What the prover says of a proof that rests on another which it has refused, and of one that was written for code of another shape: neither
 # is about the answer.
 FOLLOWS = ("was not admitted", "cannot be checked")
 SHAPE = ("has no `Need-", "has no field")
-
-
-class Wrong:
-    def __init__(self, name):
-        self.name, self.dies, self.changes = name, None, []
-
-    def change(self, file, old, new, after=0):
-        """Of a file's text the first OLD after a place becomes NEW."""
-        at = (TOP / file).read_text().find(old, after)
-        if at < 0:
-            sys.exit(f"{self.name}: {file} has no '{old}'")
-        self.changes.append((file, at, old, new))
-
-
-def read_edits(path):
-    """The wrong answers of a file of must-fail."""
-    wrongs, file, old = [], None, None
-    for line in path.read_text().splitlines():
-        word, _, rest = line.partition(": ")
-        if word == "wrong":
-            wrongs.append(Wrong(rest))
-        elif word == "dies":
-            wrongs[-1].dies = rest
-        elif word == "file":
-            file = f"crates/{path.parts[-3]}/{rest}"
-        elif word == "old":
-            old = rest
-        elif word == "new" or line == "new:":
-            wrongs[-1].change(file, old, rest)
-    return wrongs
-
-
-def edit_files(names):
-    """The files of must-fail, with their crates: of all crates, or of those named."""
-    files = [(path.parts[-3], path) for path in sorted(TOP.glob("crates/*/must-fail/*.edit"))]
-    return [(crate, path) for crate, path in files if not names or crate in names]
 
 
 # ---- what the prover said
@@ -94,11 +59,8 @@ def judge(crate, where, wrongs, log, telling):
             print(f"{crate}/{wrong.name}: REFUSED FOR ITS SHAPE ALONE, in {wrong.dies} ({where})")
         else:
             print(f"{crate}/{wrong.name}: NOT REFUSED by the proof of {wrong.dies} ({where})")
-    twice = [wrong.name for wrong in wrongs if [other.dies for other in wrongs].count(wrong.dies) > 1]
-    if twice:
-        print(f"{crate}: {', '.join(twice)}: NOT TOLD APART: one proof for several in one file ({where})")
     sys.stdout.flush()
-    return 0 if twice else refused
+    return refused
 
 
 def verdict(tried, refused):
@@ -108,7 +70,7 @@ def verdict(tried, refused):
 
 def check_gate():
     tried = refused = 0
-    for crate, path in edit_files([]):
+    for crate, path in edit_files():
         wrongs = read_edits(path)
         log = TOP / "target" / "must-fail" / crate / path.stem / ".log"
         tried += max(1, len(wrongs))
@@ -120,13 +82,14 @@ def check_gate():
 
 
 def prove_with(crate, wrongs, copy):
-    """What the prover says of the crate with all these changes made."""
-    changes = sorted((change for wrong in wrongs for change in wrong.changes), key=lambda change: -change[1])
-    for file, at, old, new in changes:
-        text = (copy / file).read_text()
-        (copy / file).write_text(text[:at] + new + text[at + len(old) :])
+    """What the prover says of the crate with all these changes made, one after another."""
+    texts = {}
+    for wrong in wrongs:
+        texts = wrong.made(texts)
+    for file, text in texts.items():
+        (copy / file).write_text(text)
     done = subprocess.run(["rt", "dev", crate], cwd=copy, capture_output=True, text=True, env={**os.environ, "RT_CUT": "0"})
-    for file in {change[0] for change in changes}:
+    for file in texts:
         shutil.copy(TOP / file, copy / file)
     return done.stdout + done.stderr
 
@@ -143,37 +106,6 @@ def check_here(copies):
     return verdict(tried, refused)
 
 
-def function_at(path, text, at):
-    """The function in whose body a place of a source file lies, as the prover names it within its crate; None before the first."""
-    before = text[:at]
-    heads = re.findall(r'^( *)(?:pub )?(?:extern "C" )?fn (\w+)', before, re.M)
-    if not heads:
-        return None
-    indent, name = heads[-1]
-    kind = re.findall(r"^impl(?:<[^>]*>)? (\w+)", before, re.M)[-1] + "::" if indent else ""
-    module = "" if path.stem in ("lib", "main") else path.stem + "::"
-    return module + kind + name
-
-
-def read_mutants():
-    """The mutants by crate. One that is in no function, a constant, is left out: the promise about it is another crate's."""
-    crates, row = {}, {}
-    for line in (TOP / "tools" / "mutants.txt").read_text().splitlines():
-        word, _, rest = line.partition(": ")
-        row[word] = rest
-        if word == "new":
-            path = TOP / row["file"]
-            text = path.read_text()
-            wrong = Wrong(row["name"])
-            wrong.change(row["file"], row["old"], rest, text.index(row["in"]) + len(row["in"]))
-            wrong.dies = function_at(path, text, wrong.changes[0][1])
-            if wrong.dies:
-                crates.setdefault(path.parts[-3], []).append(wrong)
-            else:
-                print(f"{wrong.name}: a constant, left out")
-    return crates
-
-
 def rounds(wrongs):
     """The wrong answers in as few copies as do: none has a function twice."""
     copies = []
@@ -187,13 +119,62 @@ def rounds(wrongs):
 
 
 def mutant_copies(names):
-    for crate, wrongs in read_mutants().items():
-        if not names or crate in names:
-            for number, some in enumerate(rounds(wrongs), 1):
-                yield crate, f"copy {number}", some
+    """One that is in no function, a constant, is left out: the promise about it is another crate's."""
+    wrongs = [wrong for wrong in read_mutants() if not names or wrong.crate in names]
+    for wrong in wrongs:
+        if not wrong.dies:
+            print(f"{wrong.name}: a constant, left out")
+    for crate in {wrong.crate: None for wrong in wrongs}:
+        for number, some in enumerate(rounds([wrong for wrong in wrongs if wrong.crate == crate and wrong.dies]), 1):
+            yield crate, f"copy {number}", some
+
+
+# ---- whether the files can be tried
+
+
+def faults_of(path):
+    """What is wrong with a file of must-fail, whatever the prover says."""
+    try:
+        wrongs = read_edits(path)
+    except ValueError as fault:
+        return [str(fault)]
+    texts, said = {}, [] if wrongs else ["it has no wrong answer"]
+    for wrong in wrongs:
+        said += [f"{wrong.name}: {fault}" for fault in lacks(wrong)]
+        try:
+            wrong.made({})
+            texts = wrong.made(texts)
+        except (ValueError, OSError) as fault:
+            said.append(f"{wrong.name}: {fault}")
+    named = {wrong.dies: [other.name for other in wrongs if other.dies == wrong.dies] for wrong in wrongs}
+    return said + [f"{', '.join(several)}: one proof for several, {dies}" for dies, several in named.items() if len(several) > 1]
+
+
+def lacks(wrong):
+    if not wrong.changes:
+        yield "it changes nothing"
+    if not wrong.dies:
+        yield "it does not say where it dies"
+    elif wrong.dies.endswith(".antt"):
+        if not (TOP / "crates" / wrong.crate / "proofs" / wrong.dies).is_file():
+            yield f"{wrong.crate} has no proofs/{wrong.dies}"
+    elif wrong.dies not in functions(wrong.crate):
+        yield f"{wrong.crate} has no function {wrong.dies}"
+
+
+def check_files():
+    """Whether each change can be made, alone and after those before it in its file; whether each proof named is there, and once in a file."""
+    said = [f"{path.relative_to(TOP)}: {fault}" for _, path in edit_files() for fault in faults_of(path)]
+    for line in said:
+        print(line)
+    return not said
 
 
 def main(words):
+    if not check_files():
+        return False
+    if words == ["--check"]:
+        return True
     if words[:1] == ["--edits"]:
         return check_here([(crate, path.name, read_edits(path)) for crate, path in edit_files(words[1:])])
     if words[:1] == ["--mutants"]:

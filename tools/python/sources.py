@@ -6,7 +6,7 @@ import re
 import sys
 from typing import NamedTuple
 
-from refused import TOP, edit_files, read_edits
+from edits import TOP, edit_files, read_edits
 
 PROGRAMS = ("lister", "examples", "recorded")  # no other crate calls them
 PRIVATE = "-- ---- cited by private functions alone"  # what a reader of a file of definitions may skip, from here to its end
