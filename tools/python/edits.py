@@ -49,7 +49,7 @@ class Change(NamedTuple):
 
 class Wrong:
     def __init__(self, crate, name):
-        self.crate, self.name, self.dies, self.changes = crate, name, None, []
+        self.crate, self.name, self.label, self.dies, self.changes = crate, name, f"{crate}/{name}", None, []
 
     def made(self, texts):
         """The texts of the files that it changes, from the texts that they have, or those of the repository where TEXTS has none."""
@@ -99,6 +99,7 @@ def read_mutants():
         if word == "new":
             path = Path(row["file"])
             wrong = Wrong(path.parts[1], row["name"])
+            wrong.label = wrong.name
             wrong.changes.append(Change(row["file"], row["in"], row["old"], rest))
             text = (TOP / path).read_text()
             wrong.dies = function_at(path, text, wrong.changes[0].place(text))

@@ -1,0 +1,280 @@
+"""Whether the differential catches wrong answers: a library is built from each, and the driver has to report a difference.
+
+    mutants.py SCRATCH [WORDS..]         those of all crates, or those that the words name
+    mutants.py SCRATCH --list [WORDS..]  names them, and builds nothing
+
+A word is a crate, CRATE/NAME or NAME. A wrong answer is one of crates/*/must-fail or of tools/mutants.txt that changes what is compiled: its
+crate is one that the archives are built from, its files are under src/, and it changes more than promises. One whose library is byte for
+byte the unchanged one is none either, as no comparison can tell the two apart: its function is in no archive, or its answer is overruled.
+
+The prover refuses such a library, so its crates are compiled with no proof, as 'rt try' does it: an archive's crate stands in a copy of the
+crates as a program with an empty main, and the toolchain's clang is one that keeps the module which it is handed. The exported functions
+around it, which only 'rt staticlib' makes, are made here. The unchanged crates, built in the same way, have to agree first. All of it stands
+in the folder SCRATCH; nothing is read from target/ but the driver, and nothing is written there.
+"""
+
+import functools
+import os
+import re
+import shutil
+import signal
+import subprocess
+import sys
+from pathlib import Path
+
+from edits import TOP, changes_code, edit_files, read_edits, read_mutants
+from header import CRATES as PARTS
+from header import ENTRY, Entry
+from sources import below, crates
+
+COUNT = 100000  # random answers a module: enough, as the corners are always compared
+LONGEST = 300  # seconds of the driver after which it counts as hung
+TRIPLE = "x86_64-unknown-linux-gnu"
+WORDS = {"u8": "i8", "u16": "i16", "u32": "i32", "u64": "i64", "usize": "i64"}
+
+# The module of the driver that most likely sees a wrong answer of a crate, or of a file of the exported functions. It looks first.
+LIKELY = {
+    "timestamp": "timestamp", "timestamps": "timestamp", "control": "control", "clocks": "control", "packet": "packet", "packets": "packet",
+    "adaptation": "adaptation", "fields": "adaptation", "pes": "head", "heads": "head", "contents": "contents", "parsed": "contents",
+    "log": "machine", "machine": "machine", "machines": "machine", "writer": "writer", "writing": "writer", "pes_header": "gather",
+    "gather": "gather", "gathering": "gather",
+}  # fmt: skip
+
+
+# ---- the catalogue
+
+
+def catalogue():
+    """All wrong answers that change what is compiled into an archive."""
+    archived = set().union(*(below(part) for part in PARTS))
+    edits = [wrong for crate in crates() for _, path in edit_files([crate]) for wrong in read_edits(path)]
+    return [wrong for wrong in edits + read_mutants() if wrong.crate in archived and changes_code(wrong)]
+
+
+def chosen(words):
+    wrongs = catalogue()
+    for word in words:
+        if not any(word in (wrong.crate, wrong.name, wrong.label) for wrong in wrongs):
+            sys.exit(f"mutants: no crate of the archives, and no wrong answer that changes their code, is named {word}")
+    return [wrong for wrong in wrongs if not words or {wrong.crate, wrong.name, wrong.label} & set(words)]
+
+
+def show(wrongs):
+    by_crate = {crate: [wrong for wrong in wrongs if wrong.crate == crate] for crate in crates()}
+    for crate, some in by_crate.items():
+        if some:
+            print(f"{crate}: {len(some)}")
+            for wrong in some:
+                print(f"  {wrong.name}: {wrong.dies or 'a constant'}")
+    print(f"{len(wrongs)} wrong answers that change the library's code")
+
+
+# ---- a library with no proof
+
+
+class Bench:
+    """Where libraries are built: a copy of the crates for each archive, in which the archive's crate is a program."""
+
+    def __init__(self, scratch):
+        self.scratch = scratch
+        self.home = Path(run(["rt", "doc"]).stdout.strip()).parents[1]
+        self.tools = self.home / "on" / os.uname().machine / "toolchain"
+        self.kit = scratch / "kit"
+        self.make_kit()
+        for part in PARTS:
+            self.copy_crates(part)
+        self.unchanged = {part: self.object_of(part, "unchanged") for part in PARTS}
+
+    def make_kit(self):
+        """The toolchain by links, but for a clang that keeps the first module which it is handed, and ends there."""
+        own = Path("on") / os.uname().machine
+        link_all_but(self.home, "on", self.kit)
+        link_all_but(self.home / own, "toolchain", self.kit / own)
+        link_all_but(self.tools, "bin", self.kit / own / "toolchain")
+        link_all_but(self.tools / "bin", "clang", self.kit / own / "toolchain" / "bin")
+        clang = self.kit / own / "toolchain" / "bin" / "clang"
+        clang.write_text(f"#!/bin/sh\ncp module.bc '{self.scratch}/module.bc'\nexit 1\n")
+        clang.chmod(0o755)
+
+    def copy_crates(self, part):
+        copy = self.scratch / part
+        copy.mkdir()
+        shutil.copy(TOP / "crates.txt", copy)
+        for crate in below(part):
+            shutil.copytree(TOP / "crates" / crate / "src", copy / "crates" / crate / "src")
+        self.write(part, f"crates/{part}/src/lib.rt", (TOP / "crates" / part / "src" / "lib.rt").read_text())
+
+    def write(self, part, file, text):
+        """A source file of an archive's copy. The root of its program is one that has a main."""
+        path = self.scratch / part / file
+        if file == f"crates/{part}/src/lib.rt":
+            path.unlink(missing_ok=True)
+            path, text = path.with_name("main.rt"), text + "\nfn main() {}\n"
+        path.write_text(text)
+
+    def module_of(self, part):
+        """The module that the toolchain makes of an archive's crate, as text; none where it does not compile."""
+        module = self.scratch / "module.bc"
+        module.unlink(missing_ok=True)
+        said = run(["rt", "try", part], cwd=self.scratch / part, env={**os.environ, "RATTLE_HOME": str(self.kit)})
+        if not module.exists():
+            print(said.stdout + said.stderr, file=sys.stderr)
+            return None
+        clang = [self.tools / "bin" / "clang", f"--target={TRIPLE}", "-x", "ir", module]
+        return run([*clang, "-S", "-emit-llvm", "-Xclang", "-disable-llvm-passes", "-O0", "-o", "-"], check=True).stdout
+
+    def object_of(self, part, name):
+        """An archive's crate and the exported functions around it, as an object."""
+        module = self.module_of(part)
+        if module is None:
+            return None
+        text, made = self.scratch / "library.ll", self.scratch / f"{name}.{part}.o"
+        module = module.replace("define i32 @main()", "define internal i32 @unused_main()")
+        text.write_text("\n".join([module, *(exported(part, module, file) for file in sources_of(part))]))
+        clang = [self.tools / "bin" / "clang", f"--target={TRIPLE}", "-fPIC", "-O3", "-c", "-x", "ir", text]
+        run([*clang, "-o", made], check=True)
+        return made
+
+    def changed_objects(self, wrong):
+        """The objects of the archives that a wrong answer changes, one after another; none where one does not compile."""
+        texts = wrong.made({})
+        for part in PARTS:
+            if wrong.crate not in below(part):
+                continue
+            for file, text in texts.items():
+                self.write(part, file, text)
+            made = self.object_of(part, "changed")
+            for file in texts:
+                self.write(part, file, (TOP / file).read_text())
+            if made is None or made.read_bytes() != self.unchanged[part].read_bytes():
+                yield part, made
+
+    def driver(self, objects):
+        program = self.scratch / "differential"
+        run([str(word) for word in ["bash", "-c", LINK, "mutants", program, *objects.values()]], check=True, cwd=TOP)
+        return program
+
+
+LINK = '. tools/common.sh && link_rust differential "$@"'
+RUN = '. tools/common.sh && run_x86 "$@"'
+
+
+def run(words, **options):
+    return subprocess.run(words, capture_output=True, text=True, **options)
+
+
+def link_all_but(folder, entry, new):
+    """Links to all that is in a folder but one entry."""
+    new.mkdir(parents=True)
+    for one in folder.iterdir():
+        if one.name != entry:
+            (new / one.name).symlink_to(one)
+
+
+@functools.cache
+def sources_of(part):
+    return sorted((TOP / "crates" / part / "src").glob("*.rt"))
+
+
+def exported(part, module, file):
+    """The exported functions of a source file, each around that of the module: bytes that are lent come as pointer and length."""
+    return "\n".join(around(Entry(*found.groups()), module, part) for found in ENTRY.finditer(file.read_text()))
+
+
+def around(entry, module, part):
+    inner = re.search(rf'@"{part}::(?:\w+::)*{entry.name}"', module)[0]
+    outside, inside, lines = [], [], []
+    for nth, one in enumerate(entry.parameters):
+        pointer = one.slice or one.written or one.count
+        word = f"{'ptr' if pointer else WORDS[one.number]} %a{nth}"
+        outside.append(word)
+        if one.slice:
+            outside.append(f"i64 %n{nth}")
+            word = f"ptr %s{nth}"
+            lines += [
+                f"%s{nth} = alloca {{ ptr, i64 }}, align 8",
+                f"store ptr %a{nth}, ptr %s{nth}, align 8",
+                f"%l{nth} = getelementptr i8, ptr %s{nth}, i64 8",
+                f"store i64 %n{nth}, ptr %l{nth}, align 8",
+            ]
+        inside.append(word)
+    kind = WORDS[entry.answer]
+    lines += [f"%r = call {kind} {inner}({', '.join(inside)})", f"ret {kind} %r"]
+    return f"define {kind} @{entry.name}({', '.join(outside)}) {{\n" + "".join(f"  {line}\n" for line in lines) + "}\n"
+
+
+# ---- the comparison
+
+
+def first_difference(program, words=()):
+    """What the driver first says against a library, where it ends; none where all agrees."""
+    command = ["bash", "-c", RUN, "mutants", str(program), "--count", str(COUNT), *words]
+    with subprocess.Popen(command, cwd=TOP, stdout=subprocess.PIPE, text=True, start_new_session=True) as driver:
+        signal.signal(signal.SIGALRM, lambda *_: os.killpg(driver.pid, signal.SIGKILL))
+        signal.alarm(LONGEST)
+        said = next((line for line in driver.stdout if line.startswith("DIFFERS")), None)
+        hung = signal.alarm(0) == 0
+        if said:
+            os.killpg(driver.pid, signal.SIGKILL)
+            return said.strip()
+    if driver.returncode == 0:
+        return None
+    return f"the driver does not end within {LONGEST} s" if hung else f"the driver fails with status {driver.returncode}"
+
+
+def look_first(wrong):
+    """The words by which the driver looks first where the wrong answer most likely shows."""
+    for word in (Path(wrong.changes[0].file).stem, wrong.crate):
+        if word in LIKELY:
+            return ["--only", LIKELY[word]]
+    return []
+
+
+def compared(bench, wrong):
+    """What the comparison says of a wrong answer: 'caught', 'survived', 'same' or 'not compiled', and the first difference."""
+    objects, same = dict(bench.unchanged), True
+    for part, made in bench.changed_objects(wrong):
+        if made is None:
+            return "not compiled", None
+        same, objects[part] = False, made
+        if said := first_difference(bench.driver(objects), look_first(wrong)):
+            return "caught", said
+    if same:
+        return "same", None
+    said = first_difference(bench.driver(objects))
+    return ("caught" if said else "survived"), said
+
+
+SAID = {
+    "caught": "caught: {}",
+    "survived": "NOT CAUGHT",
+    "same": "left out: the library is byte for byte the unchanged one",
+    "not compiled": "NOT COMPILED",
+}
+
+
+def compare(bench, wrongs):
+    found = {kind: [] for kind in SAID}
+    if said := first_difference(bench.driver(bench.unchanged)):
+        sys.exit(f"mutants: the unchanged crates, built with no proof, do not agree: {said}")
+    print("unchanged: agrees", flush=True)
+    for wrong in wrongs:
+        kind, said = compared(bench, wrong)
+        found[kind].append(wrong.label)
+        print(f"{wrong.label}: {SAID[kind].format(said)}", flush=True)
+    missed = found["survived"] + found["not compiled"]
+    print(f"{len(found['same'])} leave the library as it is: {', '.join(found['same']) or 'none'}")
+    print(f"{len(found['caught']) + len(missed)} wrong answers: {len(found['caught'])} caught, {len(missed)} not: {', '.join(missed) or 'none'}")
+    return not missed
+
+
+def main(scratch, words):
+    if words[:1] == ["--list"]:
+        return show(chosen(words[1:]))
+    wrongs = chosen(words)
+    if not compare(Bench(Path(scratch)), wrongs):
+        sys.exit(1)
+
+
+if __name__ == "__main__":
+    main(sys.argv[1], sys.argv[2:])
