@@ -91,20 +91,24 @@ def edit_files(names=()):
 
 
 def read_mutants():
-    """The wrong answers of tools/mutants.txt; DIES is the function that each is in, none where it is in a constant."""
+    """The wrong answers of tools/mutants.txt."""
     wrongs, row = [], {}
     for line in MUTANTS.read_text().splitlines():
         word, _, rest = line.partition(": ")
         row[word] = rest
         if word == "new":
-            path = Path(row["file"])
-            wrong = Wrong(path.parts[1], row["name"])
+            wrong = Wrong(Path(row["file"]).parts[1], row["name"])
             wrong.label = wrong.name
             wrong.changes.append(Change(row["file"], row["in"], row["old"], rest))
-            text = (TOP / path).read_text()
-            wrong.dies = function_at(path, text, wrong.changes[0].place(text))
             wrongs.append(wrong)
     return wrongs
+
+
+def function_of(wrong):
+    """The function that a wrong answer is in; None where it is in a constant."""
+    change = wrong.changes[0]
+    text = (TOP / change.file).read_text()
+    return function_at(Path(change.file), text, change.place(text))
 
 
 def function_at(path, text, at):
@@ -131,7 +135,7 @@ def without_promises(text):
     for clause in re.finditer(r"\b(?:requires|ensures) \{", text):
         kept.append(text[start : clause.start()])
         start = closing(text, clause.end())
-    return "".join([*kept, text[start:]]).split()
+    return " ".join("".join([*kept, text[start:]]).split())
 
 
 def closing(text, at):
@@ -144,8 +148,7 @@ def closing(text, at):
     return at
 
 
-def changes_code(wrong):
-    """Whether it changes what is compiled, and not promises alone."""
-    if not all(change.file.split("/")[2] == "src" for change in wrong.changes):
-        return False
-    return any(without_promises(text) != without_promises((TOP / file).read_text()) for file, text in wrong.made({}).items())
+def changed_code(wrong):
+    """Each file of src/ of which it changes more than promises, with what is then compiled of it."""
+    made = {file: without_promises(text) for file, text in wrong.made({}).items() if file.split("/")[2] == "src"}
+    return {file: code for file, code in made.items() if code != without_promises((TOP / file).read_text())}

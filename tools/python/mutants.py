@@ -22,7 +22,7 @@ import subprocess
 import sys
 from pathlib import Path
 
-from edits import TOP, changes_code, edit_files, read_edits, read_mutants
+from edits import TOP, changed_code, edit_files, function_of, read_edits, read_mutants
 from header import CRATES as PARTS
 from header import ENTRY, Entry
 from sources import below, crates
@@ -48,7 +48,7 @@ def catalogue():
     """All wrong answers that change what is compiled into an archive."""
     archived = set().union(*(below(part) for part in PARTS))
     edits = [wrong for crate in crates() for _, path in edit_files([crate]) for wrong in read_edits(path)]
-    return [wrong for wrong in edits + read_mutants() if wrong.crate in archived and changes_code(wrong)]
+    return [wrong for wrong in edits + read_mutants() if wrong.crate in archived and changed_code(wrong)]
 
 
 def chosen(words):
@@ -65,7 +65,7 @@ def show(wrongs):
         if some:
             print(f"{crate}: {len(some)}")
             for wrong in some:
-                print(f"  {wrong.name}: {wrong.dies or 'a constant'}")
+                print(f"  {wrong.label}: {wrong.dies or function_of(wrong) or 'a constant'}")
     print(f"{len(wrongs)} wrong answers that change the library's code")
 
 

@@ -20,7 +20,7 @@ import sys
 import tempfile
 from pathlib import Path
 
-from edits import TOP, edit_files, read_edits, read_mutants
+from edits import TOP, changed_code, edit_files, function_of, read_edits, read_mutants
 from sources import functions
 
 # What the prover says of a proof that rests on another which it has refused, and of one that was written for code of another shape: neither
@@ -122,6 +122,7 @@ def mutant_copies(names):
     """One that is in no function, a constant, is left out: the promise about it is another crate's."""
     wrongs = [wrong for wrong in read_mutants() if not names or wrong.crate in names]
     for wrong in wrongs:
+        wrong.dies = function_of(wrong)
         if not wrong.dies:
             print(f"{wrong.name}: a constant, left out")
     for crate in {wrong.crate: None for wrong in wrongs}:
@@ -162,9 +163,26 @@ def lacks(wrong):
         yield f"{wrong.crate} has no function {wrong.dies}"
 
 
+def mutant_faults(edits):
+    """What is wrong with tools/mutants.txt beside these wrong answers of must-fail."""
+    known = {str(changed_code(wrong)): wrong.label for wrong in edits}
+    for wrong in read_mutants():
+        try:
+            label = known.setdefault(str(changed_code(wrong)), wrong.label)
+        except (ValueError, OSError) as fault:
+            yield f"{wrong.name}: {fault}"
+        else:
+            if label != wrong.label:
+                yield f"{wrong.name}: {label} makes the same change"
+
+
 def check_files():
-    """Whether each change can be made, alone and after those before it in its file; whether each proof named is there, and once in a file."""
-    said = [f"{path.relative_to(TOP)}: {fault}" for _, path in edit_files() for fault in faults_of(path)]
+    """Whether each change can be made, alone and after those before it in its file; whether each proof named is there, and once in a file;
+    whether tools/mutants.txt has only what must-fail lacks."""
+    files = [path for _, path in edit_files()]
+    said = [f"{path.relative_to(TOP)}: {fault}" for path in files for fault in faults_of(path)]
+    if not said:
+        said = [f"tools/mutants.txt: {fault}" for fault in mutant_faults([wrong for path in files for wrong in read_edits(path)])]
     for line in said:
         print(line)
     return not said
