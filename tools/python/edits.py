@@ -9,8 +9,8 @@ A file of must-fail holds several, each with the lines
     new:   what takes its place
 
 and lines that begin with '#'. rt makes all changes of a file in one copy, one after another, and passes over 'wrong:' and 'dies:'. A wrong
-answer of tools/mutants.txt has 'name:' for its name, no 'dies:', a file that is seen from the repository's top, and 'in:', a text that stands
-in the file exactly once: the change is of the first 'old:' after it.
+answer of tools/mutants.txt has 'name:' for its name, no 'dies:', a file that is seen from the repository's top, and 'in:', a text that
+stands in the file exactly once: the change is of the first 'old:' after it.
 """
 
 import functools

@@ -3,14 +3,15 @@
     mutants.py SCRATCH [WORDS..]         those of all crates, or those that the words name
     mutants.py SCRATCH --list [WORDS..]  names them, and builds nothing
 
-A word is a crate, CRATE/NAME or NAME. A wrong answer is one of crates/*/must-fail or of tools/mutants.txt that changes what is compiled: its
-crate is one that the archives are built from, its files are under src/, and it changes more than promises. One whose library is byte for
-byte the unchanged one is none either, as no comparison can tell the two apart: its function is in no archive, or its answer is overruled.
+A word is a crate, CRATE/NAME or NAME. Tried are the wrong answers of crates/*/must-fail and of tools/mutants.txt that change what is
+compiled into an archive: the crate is one that the archives are built from, the file is under src/, and more than promises is changed. Left
+out is also one whose library is byte for byte the unchanged one, as no comparison can tell the two apart: its function is in no archive, or
+what it answers is never looked at. A driver that fails or hangs has caught a wrong answer too.
 
 The prover refuses such a library, so its crates are compiled with no proof, as 'rt try' does it: an archive's crate stands in a copy of the
 crates as a program with an empty main, and the toolchain's clang is one that keeps the module which it is handed. The exported functions
-around it, which only 'rt staticlib' makes, are made here. The unchanged crates, built in the same way, have to agree first. All of it stands
-in the folder SCRATCH; nothing is read from target/ but the driver, and nothing is written there.
+around it, which only 'rt staticlib' makes, are made here. The unchanged crates, built in the same way, have to agree first. All of it
+stands in the folder SCRATCH; of target/ only the driver is read, and nothing is written there.
 """
 
 import functools
@@ -27,8 +28,8 @@ from header import CRATES as PARTS
 from header import ENTRY, Entry
 from sources import below, crates
 
-COUNT = 100000  # random answers a module: enough, as the corners are always compared
-LONGEST = 300  # seconds of the driver after which it counts as hung
+QUICK = ["--count", "100000"]  # random answers a module: most often enough, as the corners are always compared
+LONGEST = 1200  # seconds of the driver after which it counts as hung
 TRIPLE = "x86_64-unknown-linux-gnu"
 WORDS = {"u8": "i8", "u16": "i16", "u32": "i32", "u64": "i64", "usize": "i64"}
 
@@ -77,13 +78,15 @@ class Bench:
 
     def __init__(self, scratch):
         self.scratch = scratch
-        self.home = Path(run(["rt", "doc"]).stdout.strip()).parents[1]
+        self.home = Path(must_run(["rt", "doc"]).strip()).parents[1]
         self.tools = self.home / "on" / os.uname().machine / "toolchain"
         self.kit = scratch / "kit"
         self.make_kit()
         for part in PARTS:
             self.copy_crates(part)
         self.unchanged = {part: self.object_of(part, "unchanged") for part in PARTS}
+        if None in self.unchanged.values():
+            sys.exit("mutants: the unchanged crates do not compile")
 
     def make_kit(self):
         """The toolchain by links, but for a clang that keeps the first module which it is handed, and ends there."""
@@ -116,12 +119,12 @@ class Bench:
         """The module that the toolchain makes of an archive's crate, as text; none where it does not compile."""
         module = self.scratch / "module.bc"
         module.unlink(missing_ok=True)
-        said = run(["rt", "try", part], cwd=self.scratch / part, env={**os.environ, "RATTLE_HOME": str(self.kit)})
+        said = run(["rt", "try", part], cwd=self.scratch / part, env={**os.environ, "RATTLE_HOME": self.kit})
         if not module.exists():
             print(said.stdout + said.stderr, file=sys.stderr)
             return None
         clang = [self.tools / "bin" / "clang", f"--target={TRIPLE}", "-x", "ir", module]
-        return run([*clang, "-S", "-emit-llvm", "-Xclang", "-disable-llvm-passes", "-O0", "-o", "-"], check=True).stdout
+        return must_run([*clang, "-S", "-emit-llvm", "-Xclang", "-disable-llvm-passes", "-O0", "-o", "-"])
 
     def object_of(self, part, name):
         """An archive's crate and the exported functions around it, as an object."""
@@ -132,7 +135,7 @@ class Bench:
         module = module.replace("define i32 @main()", "define internal i32 @unused_main()")
         text.write_text("\n".join([module, *(exported(part, module, file) for file in sources_of(part))]))
         clang = [self.tools / "bin" / "clang", f"--target={TRIPLE}", "-fPIC", "-O3", "-c", "-x", "ir", text]
-        run([*clang, "-o", made], check=True)
+        must_run([*clang, "-o", made])
         return made
 
     def changed_objects(self, wrong):
@@ -151,7 +154,7 @@ class Bench:
 
     def driver(self, objects):
         program = self.scratch / "differential"
-        run([str(word) for word in ["bash", "-c", LINK, "mutants", program, *objects.values()]], check=True, cwd=TOP)
+        must_run(["bash", "-c", LINK, "mutants", program, *objects.values()], cwd=TOP)
         return program
 
 
@@ -160,7 +163,15 @@ RUN = '. tools/common.sh && run_x86 "$@"'
 
 
 def run(words, **options):
-    return subprocess.run(words, capture_output=True, text=True, **options)
+    return subprocess.run([str(word) for word in words], capture_output=True, text=True, **options)
+
+
+def must_run(words, **options):
+    """What a command writes, which must not fail."""
+    done = run(words, **options)
+    if done.returncode:
+        sys.exit(f"mutants: {' '.join(map(str, words))}: {done.stderr}")
+    return done.stdout
 
 
 def link_all_but(folder, entry, new):
@@ -206,10 +217,11 @@ def around(entry, module, part):
 # ---- the comparison
 
 
-def first_difference(program, words=()):
+def first_difference(program, words):
     """What the driver first says against a library, where it ends; none where all agrees."""
-    command = ["bash", "-c", RUN, "mutants", str(program), "--count", str(COUNT), *words]
-    with subprocess.Popen(command, cwd=TOP, stdout=subprocess.PIPE, text=True, start_new_session=True) as driver:
+    command = ["bash", "-c", RUN, "mutants", str(program), *words]
+    pipe, none = subprocess.PIPE, subprocess.DEVNULL
+    with subprocess.Popen(command, cwd=TOP, stdout=pipe, stderr=none, text=True, start_new_session=True) as driver:
         signal.signal(signal.SIGALRM, lambda *_: os.killpg(driver.pid, signal.SIGKILL))
         signal.alarm(LONGEST)
         said = next((line for line in driver.stdout if line.startswith("DIFFERS")), None)
@@ -226,28 +238,29 @@ def look_first(wrong):
     """The words by which the driver looks first where the wrong answer most likely shows."""
     for word in (Path(wrong.changes[0].file).stem, wrong.crate):
         if word in LIKELY:
-            return ["--only", LIKELY[word]]
-    return []
+            return [*QUICK, "--only", LIKELY[word]]
+    return QUICK
 
 
 def compared(bench, wrong):
-    """What the comparison says of a wrong answer: 'caught', 'survived', 'same' or 'not compiled', and the first difference."""
-    objects, same = dict(bench.unchanged), True
+    """What the comparison says of a wrong answer: a word of SAID, and the first difference. One archive that shows it is enough; where none
+    does, the driver compares as much as in tools/test."""
+    objects = dict(bench.unchanged)
     for part, made in bench.changed_objects(wrong):
         if made is None:
             return "not compiled", None
-        same, objects[part] = False, made
+        objects[part] = made
         if said := first_difference(bench.driver(objects), look_first(wrong)):
             return "caught", said
-    if same:
+    if objects == bench.unchanged:
         return "same", None
-    said = first_difference(bench.driver(objects))
-    return ("caught" if said else "survived"), said
+    said = first_difference(bench.driver(objects), [])
+    return ("caught" if said else "not caught"), said
 
 
 SAID = {
     "caught": "caught: {}",
-    "survived": "NOT CAUGHT",
+    "not caught": "NOT CAUGHT",
     "same": "left out: the library is byte for byte the unchanged one",
     "not compiled": "NOT COMPILED",
 }
@@ -255,16 +268,16 @@ SAID = {
 
 def compare(bench, wrongs):
     found = {kind: [] for kind in SAID}
-    if said := first_difference(bench.driver(bench.unchanged)):
+    if said := first_difference(bench.driver(bench.unchanged), QUICK):
         sys.exit(f"mutants: the unchanged crates, built with no proof, do not agree: {said}")
     print("unchanged: agrees", flush=True)
     for wrong in wrongs:
         kind, said = compared(bench, wrong)
         found[kind].append(wrong.label)
         print(f"{wrong.label}: {SAID[kind].format(said)}", flush=True)
-    missed = found["survived"] + found["not compiled"]
-    print(f"{len(found['same'])} leave the library as it is: {', '.join(found['same']) or 'none'}")
-    print(f"{len(found['caught']) + len(missed)} wrong answers: {len(found['caught'])} caught, {len(missed)} not: {', '.join(missed) or 'none'}")
+    caught, same, missed = found["caught"], found["same"], found["not caught"] + found["not compiled"]
+    print(f"{len(same)} leave the library as it is: {', '.join(same) or 'none'}")
+    print(f"{len(caught) + len(missed)} wrong answers: {len(caught)} caught, {len(missed)} not: {', '.join(missed) or 'none'}")
     return not missed
 
 

@@ -6,10 +6,10 @@
     refused.py --mutants [CRATE..]  those of tools/mutants.txt, put before the prover here
 
 edits.py says what a file of must-fail holds. rt asks only that something is refused. A function is proved by the promises of those that it
-calls, never by their code, so a right function stays proved whatever they answer, and a wrong one is refused for itself: that is looked for
-here. One file has no function twice. What only follows from another refusal is no refusal, nor is a proof that does not fit the code's
-shape; where a proof is one term and rests on a refused one nothing else is said of it, and the two wrong answers have to stand in two files,
-or the proof gives its answers before it is closed: 'let answers = tie.spec .. in tie.close answers'.
+calls, never by their code, so a right function stays proved whatever they answer, and a wrong one is refused for itself: that is looked
+for here. One file has no function twice. What only follows from another refusal is no refusal, nor is a proof that does not fit the code's
+shape; where a proof is one term and rests on a refused one nothing else is said of it, and the two wrong answers have to stand in two
+files, or the proof gives its answers before it is closed: 'let answers = tie.spec .. in tie.close answers'.
 """
 
 import os
