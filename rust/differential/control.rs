@@ -214,7 +214,13 @@ pub const EQ: Function<Pair, 1> = Function {
 
 fn compare_pairs(plan: &Plan) -> Tally {
     let mut rng = plan.rng(4);
-    EQ.compare(corner_pairs().chain((0..plan.share(FUNCTIONS)).map(|_| random_pair(&mut rng))))
+    let random = (0..plan.share(FUNCTIONS)).map(|_| random_pair(&mut rng));
+    EQ.compare(corner_pairs().chain(equal_modulo_300()).chain(random))
+}
+
+/// Extensions that are 300 apart: they differ, though the base stands for 300 of them.
+fn equal_modulo_300() -> impl Iterator<Item = Pair> {
+    (0..EXTENSIONS - 300).map(|extension| ((0, extension), (0, extension + 300)))
 }
 
 /// Equal ones, one number made in two ways, each bit changed alone, and each part out of range.
