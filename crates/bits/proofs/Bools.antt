@@ -1,7 +1,7 @@
 -- Truth values: tests joined by `pick`, as definitions write 'and', 'and not' and 'not', and tests given as numbers.
 -- Assumes nothing.
 use mathlib.Core.Path.{_≡_, refl, sym}
-use mathlib.Core.Bool.{Bool, true, false}
+use mathlib.Core.Bool.{Bool, true, false, _||_}
 use Prim.Native.Nat.{ℕ}
 use native.Mathlib.Omega.{arith}
 use Rattle.bits.specs.Answer.{pick, truth}
@@ -36,3 +36,10 @@ is-true false e = absurd (omega arith)
 pub is-false : (t : Bool) → 0 ≡ truth t → t ≡ false
 is-false true e = absurd (omega arith)
 is-false false e = refl
+
+-- ---- tests joined by `||`
+
+-- neither a nor b
+pub neither-holds : (a b : Bool) → (a || b) ≡ false → (a ≡ false) × (b ≡ false)
+neither-holds true b e = false-true (sym e)
+neither-holds false b e = (refl, e)

@@ -15,8 +15,9 @@ use types.Run.{OneOf}
 use denote.Enum.Declared.{tagOf}
 use Rattle.bits.specs.Answer.{Answer, answer, pick, truth, unless, Within, partAt, partOf}
 use Rattle.bits.specs.Field.{bit, flag}
-use Rattle.bits.proofs.Checks.{unless-within, other-false}
-use Rattle.bits.proofs.Fields.{flag-clear, flag-set, bitOf, in-byte, field-split, byte-field, Known, byte-wide}
+use Rattle.bits.proofs.Bools.{false-true, both}
+use Rattle.bits.proofs.Checks.{Off, none-holds, unless-within, eq-other, other-false}
+use Rattle.bits.proofs.Fields.{flag-clear, flag-set, bitOf, in-byte, field-split, field-below, byte-field, Known, byte-wide}
 use Rattle.bits.proofs.Parts.{part-refused, part-done}
 use Rattle.control.specs.Control.{counterOf, pidOf}
 use Rattle.packet.specs.declared.PartRead.{PartRead}
@@ -62,6 +63,10 @@ module _ (xs : List ℕ) where
   unfolding counterOf counterField
   counter-is = omega (arith, in-byte (getD xs 3 0 ∷ []) 0 4 4 0 refl, in-byte xs 3 4 4 0 refl)
 
+  pub counter-below : counterField xs ≤ 15
+  unfolding counterField
+  counter-below = omega (arith, field-below xs 28 4)
+
   adaptation-set : (getD xs 3 0 / 32 % 2 ≡ 0 → ⊥) → adaptationFlag xs ≡ true
   unfolding adaptationFlag
   adaptation-set h = flag-set xs 26 (omega arith)
@@ -82,20 +87,28 @@ module _ (xs : List ℕ) where
   unfolding adaptationLength
   length-is k = byte-field xs 4 (k 4 .fits)
 
-  content-plain : getD xs 3 0 / 32 % 2 ≡ 0 → contentAt xs ≡ 4
+  pub content-plain : adaptationFlag xs ≡ false → contentAt xs ≡ 4
   unfolding contentAt
-  content-plain h = simp (adaptation-clear h)
+  content-plain h = simp h
 
-  content-after : Known xs → (getD xs 3 0 / 32 % 2 ≡ 0 → ⊥) → contentAt xs ≡ 5 + getD xs 4 0
+  pub content-after : Known xs → adaptationFlag xs ≡ true → contentAt xs ≡ 5 + getD xs 4 0
   unfolding contentAt
-  content-after k h = simp (adaptation-set h, length-is k)
+  content-after k h = simp (h, length-is k)
+
+  -- a payload begins within the packet
+  pub payload-below : payloadThere xs ≡ true → contentAt xs < 188
+  unfolding payloadThere
+  payload-below h = ltb-true (contentAt xs) 188 (both (payloadFlag xs) (ltb (contentAt xs) 188) h .1)
 
 -- ---- what is read of a packet
 
 module _ (xs : List ℕ) (l : length xs ≡ 188) (s : getD xs 0 0 ≡ 0x47) where
-  pub packet-is : (a : Answer) → unless (notPacket xs) a ≡ a
+  pub packet-off : Off (notPacket xs)
   unfolding notPacket
-  packet-is a = simp (eq-eqb (length xs) 188 l, eq-eqb (getD xs 0 0) 0x47 s)
+  packet-off = (eq-other (length xs) 188 l, (eq-other (getD xs 0 0) 0x47 s, tt))
+
+  pub packet-is : (a : Answer) → unless (notPacket xs) a ≡ a
+  packet-is a = none-holds (notPacket xs) packet-off a
 
   pub tried-done : answer 0 [] ≡ tried xs
   tried-done = sym (packet-is _)
@@ -160,19 +173,22 @@ module _ (xs : List ℕ) (l : length xs ≡ 188) (s : getD xs 0 0 ≡ 0x47) wher
   module _ (p : getD xs 3 0 / 16 % 2 ≡ 0 → ⊥) where
     pub payload-plain : getD xs 3 0 / 32 % 2 ≡ 0 → answer 0 (4 ∷ 184 ∷ []) ≡ readPayload xs
     unfolding payloadThere
-    payload-plain h = payload-is true 4 (content-plain xs h) (simp (payload-set xs p, content-plain xs h))
+    payload-plain h = let e = content-plain xs (adaptation-clear xs h) in payload-is true 4 e (simp (payload-set xs p, e))
 
     module _ (k : Known xs) (f : getD xs 3 0 / 32 % 2 ≡ 0 → ⊥) where
+      after : contentAt xs ≡ 5 + getD xs 4 0
+      after = content-after xs k (adaptation-set xs f)
+
       pub payload-past : 183 ≤ getD xs 4 0 → answer 9 [] ≡ readPayload xs
       unfolding payloadThere
       payload-past h =
-          payload-is false (contentAt xs) refl (simp (payload-set xs p, content-after xs k f, le-ltb (5 + getD xs 4 0) 188 (omega arith)))
+          payload-is false (contentAt xs) refl (simp (payload-set xs p, after, le-ltb (5 + getD xs 4 0) 188 (omega arith)))
 
       pub payload-after : getD xs 4 0 < 183 → answer 0 ((5 + getD xs 4 0) ∷ (183 - getD xs 4 0) ∷ []) ≡ readPayload xs
       unfolding payloadThere
       payload-after h =
           let e : 183 - getD xs 4 0 ≡ 188 - (5 + getD xs 4 0) = omega arith in
-          rw e (payload-is true (5 + getD xs 4 0) (content-after xs k f) (simp (payload-set xs p, content-after xs k f, lt-ltb (5 + getD xs 4 0) 188 (omega arith))))
+          rw e (payload-is true (5 + getD xs 4 0) after (simp (payload-set xs p, after, lt-ltb (5 + getD xs 4 0) 188 (omega arith))))
 
 -- ---- both parts lie within the packet
 
@@ -183,9 +199,6 @@ part-within xs p n there h = unless-within (notPacket xs) _ xs (omega arith) (λ
     go : length xs ≡ 188 → (t : Bool) → (t ≡ true → p + n ≤ 188) → Within (pick t (answer 0 (p ∷ n ∷ [])) (answer 9 [])) xs
     go e true h z = let g : p + n ≤ 188 = h refl in omega arith
     go e false h z = absurd (omega arith)
-
-false-true : {A : Type 0} → false ≡ true → A
-false-true e = let z : _≡_ {A = ℕ} 0 1 = cc in absurd (omega arith)
 
 field-fits : (n : ℕ) (a p s : Bool) → pick a (pick p (pick s (leb n 182) false) (eqb n 183)) false ≡ true → 5 + n ≤ 188
 field-fits n true true true e = omega (arith, leb-true n 182 e)
@@ -199,13 +212,8 @@ adaptation-within xs =
     part-within xs 5 (adaptationLength xs) (adaptationThere xs)
     (field-fits (adaptationLength xs) (adaptationFlag xs) (payloadFlag xs) (leb 1 (adaptationLength xs)))
 
-content-fits : (k : ℕ) (p : Bool) → pick p (ltb k 188) false ≡ true → k + (188 - k) ≤ 188
-content-fits k true e = omega (arith, ltb-true k 188 e)
-content-fits k false e = false-true e
-
 payload-within : (xs : List ℕ) → Within (readPayload xs) xs
-unfolding payloadThere
-payload-within xs = part-within xs (contentAt xs) (188 - contentAt xs) (payloadThere xs) (content-fits (contentAt xs) (payloadFlag xs))
+payload-within xs = part-within xs (contentAt xs) (188 - contentAt xs) (payloadThere xs) (λ h. omega (arith, payload-below xs h))
 
 -- an answer that is not `Done` is a refusal
 not-done : (r : PartRead) → OneOf (1 ∷ 2 ∷ 3 ∷ []) (tagOf the-type r) → givenPart r .number ≡ 0 → ⊥
