@@ -16,7 +16,7 @@ use Rattle.machine.specs.declared.Phase.{Phase}
 use Rattle.machine.specs.declared.Phase.the-variants.{Begin, Started, IgnoreRest}
 use Rattle.machine.specs.Events.{State, startFlag, headAccepted, continuous, settled, broken, atStart, begun, continued, eventsOf}
 use Rattle.machine.specs.Events.{phaseAfter, next, run}
-use Rattle.machine.proofs.Laws.{payload-below}
+use Rattle.packet.proofs.Laws.{payload-below}
 use Rattle.gather.specs.declared.Lies.the-variants.{Store}
 use Rattle.gather.specs.Gather.{gathering, emptied}
 use Rattle.gather.specs.Units.{Standing, called, gatherAll, answers, readAt, unitBytes}

@@ -1,18 +1,19 @@
 -- What the entries over a row tell, in each case.
 -- Assumes nothing.
 use mathlib.Core.Path.{_≡_, refl, sym, ap, _∙_}
-use mathlib.Core.Bool.{Bool, true, false}
+use mathlib.Core.Bool.{Bool, true, false, not}
 use mathlib.Core.List.{List, [], _∷_}
 use Prim.Native.Nat.{ℕ}
 use lib.Dec.{eqb}
 use lib.ListN.{length, getD}
 use borrow.Author.Tests.{eq-eqb, ne-eqb, eqb-true}
-use Rattle.bits.specs.Answer.{Answer, answer, pick}
+use Rattle.bits.specs.Answer.{Answer, answer, pick, firstOf, other}
 use Rattle.machine.specs.declared.Machine.{Machine}
 use Rattle.machine.specs.declared.row.RowRead.{RowRead}
 use Rattle.machine.specs.declared.row.RowRead.the-variants.{Is, Stray}
-use Rattle.machine.specs.Step.{other, judged, Outcome, stepOf, logOf}
-use Rattle.machine.specs.Run.{runJudged, Reported, reportOf, ranLog}
+use Rattle.machine.specs.Step.{notTaken, Outcome, stepOf, logOf}
+use Rattle.machine.specs.Run.{notRun, Reported, reportOf, ranLog}
+use Rattle.machine.proofs.Rows.{stray-number}
 use Rattle.machine.specs.Row.{machineOf, rowOf, stepBy, rowStep, rowStepOf, runBy, rowRun, rowRunOf}
 use Rattle.log.specs.declared.Event.{Event}
 use Rattle.host.specs.Reports.{Reports}
@@ -29,7 +30,7 @@ module _ (r : RowRead) (xs p l : List ℕ) (of : r ≡ machineOf xs) where
   unfolding rowStepOf
   by = ap (λ (t : RowRead). stepBy t xs p l) of
 
-  pub step-strayed : (n : ℕ) → r ≡ Stray → n ≡ judged p true 0 → rowStep n xs l ≡ rowStepOf xs p l
+  pub step-strayed : (n : ℕ) → r ≡ Stray → n ≡ firstOf (notTaken p true []) → rowStep n xs l ≡ rowStepOf xs p l
   step-strayed n e f = ap (λ (k : ℕ). rowStep k xs l) f ∙ (ap (λ (t : RowRead). stepBy t xs p l) (sym e) ∙ by)
 
   module _ (m : Machine) (e : r ≡ Is m) (o : Outcome) (l′ : List ℕ) (n : ℕ) (f : o ≡ stepOf m p l) (g : l′ ≡ logOf m p l) (h : n ≡ o .number) where
@@ -47,7 +48,7 @@ module _ (r : RowRead) (xs bs l : List ℕ) (t e : ℕ) (of : r ≡ machineOf xs
   unfolding rowRunOf
   run-by = ap (λ (a : RowRead). runBy a xs bs l t e) of
 
-  pub run-strayed : (n : ℕ) → r ≡ Stray → n ≡ runJudged bs true → rowRun n xs l t e ≡ rowRunOf xs bs l t e
+  pub run-strayed : (n : ℕ) → r ≡ Stray → n ≡ firstOf (notRun bs true) → rowRun n xs l t e ≡ rowRunOf xs bs l t e
   run-strayed n q f = ap (λ (k : ℕ). rowRun k xs l t e) f ∙ (ap (λ (a : RowRead). runBy a xs bs l t e) (sym q) ∙ run-by)
 
   module _ (m : Machine) (q : r ≡ Is m) (o : Reported) (l′ : List ℕ) (n : ℕ) (f : o ≡ reportOf m bs l) (g : l′ ≡ ranLog m bs l) (h : n ≡ o .number) where
@@ -63,11 +64,10 @@ module _ (r : RowRead) (xs bs l : List ℕ) (t e : ℕ) (of : r ≡ machineOf xs
 -- ---- the gathering store
 
 -- a row that stands for nothing is refused alike by both: 1, 2, 14
-judged-alike : (p : List ℕ) → judged p true 0 ≡ gather.judged p false 0
-unfolding judged
-judged-alike p = go (eqb (length p) 188) (eqb (getD p 0 0) 0x47)
+judged-alike : (p : List ℕ) → firstOf (notTaken p true []) ≡ gather.judged p false 0
+judged-alike p = stray-number p ∙ go (eqb (length p) 188) (eqb (getD p 0 0) 0x47)
   where
-    go : (a b : Bool) → _≡_ {A = ℕ} (pick (pick a false true) 1 (pick (pick b false true) 2 14)) (pick a (pick b 14 2) 1)
+    go : (a b : Bool) → _≡_ {A = ℕ} (pick (not a) 1 (pick (not b) 2 14)) (pick a (pick b 14 2) 1)
     go true true = refl
     go true false = refl
     go false b = refl
@@ -77,7 +77,7 @@ module _ (r : gather-row.RowRead) (xs p : List ℕ) (v : Event) (s : List ℕ) (
   unfolding store.rowGatherOf
   gathered-by = ap (λ (t : gather-row.RowRead). store.gatherBy t xs p v s) of
 
-  pub gather-strayed : (n : ℕ) → r ≡ gather-row.RowRead.Stray → n ≡ judged p true 0 → store.rowGather n xs s ≡ store.rowGatherOf xs p v s
+  pub gather-strayed : (n : ℕ) → r ≡ gather-row.RowRead.Stray → n ≡ firstOf (notTaken p true []) → store.rowGather n xs s ≡ store.rowGatherOf xs p v s
   gather-strayed n e f =
       ap (λ (k : ℕ). store.rowGather k xs s) (f ∙ judged-alike p) ∙ (ap (λ (t : gather-row.RowRead). store.gatherBy t xs p v s) (sym e) ∙ gathered-by)
 
@@ -94,9 +94,8 @@ module _ (r : gather-row.RowRead) (xs p : List ℕ) (v : Event) (s : List ℕ) (
       gather-moves xs′ z q = at-each xs′ (simp (sym d ∙ z) q)
 
 -- .. and told by its number alone
-strayed-told : (p : List ℕ) {lent : List ℕ} → Reports (answer (judged p true 0) []) (judged p true 0) lent lent
-unfolding judged
-strayed-told p {lent} = go (other (length p) 188) (other (getD p 0 0) 0x47)
+strayed-told : (p : List ℕ) {lent : List ℕ} → Reports (answer (firstOf (notTaken p true [])) []) (firstOf (notTaken p true [])) lent lent
+strayed-told p {lent} = rw (stray-number p) (go (other (length p) 188) (other (getD p 0 0) 0x47))
   where
     go : (a b : Bool) → let n : ℕ = pick a 1 (pick b 2 14) in Reports (answer n []) n lent lent
     go true b = told (refl, refl)
@@ -108,9 +107,9 @@ module _ (r : gather-row.RowRead) (xs p s : List ℕ) (of : r ≡ store.gatherin
   unfolding store.rowHeld
   held-by = ap (λ (t : gather-row.RowRead). store.heldBy t p s) of
 
-  pub held-strayed : {w : ℕ} {lent : List ℕ} → r ≡ gather-row.RowRead.Stray → w ≡ judged p true 0 → Reports (store.rowHeld xs p s) w lent lent
+  pub held-strayed : {w : ℕ} {lent : List ℕ} → r ≡ gather-row.RowRead.Stray → w ≡ firstOf (notTaken p true []) → Reports (store.rowHeld xs p s) w lent lent
   held-strayed {w} e f =
-      let q : store.rowHeld xs p s ≡ answer (judged p true 0) []
+      let q : store.rowHeld xs p s ≡ answer (firstOf (notTaken p true [])) []
       = sym (ap (λ (k : ℕ). answer k []) (judged-alike p) ∙ (ap (λ (t : gather-row.RowRead). store.heldBy t p s) (sym e) ∙ held-by)) in
       rw f (told-as q (strayed-told p))
 

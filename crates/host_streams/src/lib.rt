@@ -2,8 +2,9 @@
 // numbers are those of the crate host.
 ghost use mathlib.Core.Path.{_≡_};
 ghost use mathlib.Core.Bool.{true};
-ghost use Rattle.bits.specs.Numbers.{done};
-ghost use Rattle.machine.specs.Step.{judged};
+ghost use mathlib.Core.List.{[]};
+ghost use Rattle.bits.specs.Answer.{firstOf};
+ghost use Rattle.machine.specs.Step.{notTaken};
 use host::numbers::NO_SYNC;
 use host::numbers::OUT_OF_RANGE;
 use host::numbers::WRONG_LENGTH;
@@ -14,7 +15,7 @@ pub mod writing;
 
 // What a row that stands for no state is refused with, beside a packet: 14 is judged after 1 and 2.
 fn strayed(packet: &[u8]) -> u32
-    ensures { λ r. ⌜ r ≡ judged (now (packet .entry)) true done ⌝ }
+    ensures { λ r. ⌜ r ≡ firstOf (notTaken (now (packet .entry)) true []) ⌝ }
 {
     if packet.len() != 188 {
         return WRONG_LENGTH;

@@ -1,17 +1,18 @@
 -- What a row stands for, in each case.
 -- Assumes nothing.
 use mathlib.Core.Path.{_≡_, refl, ap}
-use mathlib.Core.Bool.{true, false}
+use mathlib.Core.Bool.{true, false, _||_}
 use mathlib.Core.List.{List, [], _∷_}
 use Prim.Native.Nat.{ℕ, _≤_, _<_}
 use native.Mathlib.Omega.{arith}
-use lib.ListN.{getD}
+use lib.ListN.{length, getD}
 use lib.Dec.{eqb, ltb}
 use borrow.Author.Tests.{lt-ltb, le-ltb, eq-eqb, ne-eqb, ltb-false}
-use Rattle.bits.specs.Answer.{pick}
+use Rattle.bits.specs.Answer.{pick, firstOf, other}
 use Rattle.control.specs.declared.ContinuityCounter.{ContinuityCounter}
 use Rattle.control.specs.Control.{counterOf}
 use Rattle.control.proofs.Laws.{counter-is}
+use Rattle.packet.specs.Packet.{notPacket}
 use Rattle.machine.specs.declared.Phase.{Phase}
 use Rattle.machine.specs.declared.Phase.the-variants.{Begin, Started, IgnoreRest}
 use Rattle.machine.specs.declared.Last.{Last}
@@ -20,7 +21,7 @@ use Rattle.machine.specs.declared.Machine.{Machine}
 use Rattle.machine.specs.declared.row.RowRead.{RowRead}
 use Rattle.machine.specs.declared.row.RowRead.the-variants.{Is, Stray}
 use Rattle.machine.specs.Events.{asCounter}
-use Rattle.machine.specs.Step.{wrongLast}
+use Rattle.machine.specs.Step.{wrongLast, notTaken}
 use Rattle.machine.specs.Row.{phaseOf, lastOf, phaseNumber, lastNumber, strays, machineOf, rowOf}
 
 module _ (xs : List ℕ) where
@@ -57,6 +58,11 @@ pub row-is : (m : Machine) (a b : ℕ) → a ≡ phaseNumber (m .phase) → b �
 unfolding rowOf
 row-is m a b e f = rw (e, f)
 
+-- what a row that stands for nothing is refused with, beside a packet: 1, 2, 14
+pub stray-number : (p : List ℕ) → firstOf (notTaken p true []) ≡ pick (other (length p) 188) 1 (pick (other (getD p 0 0) 0x47) 2 14)
+unfolding notTaken notPacket
+stray-number p = refl
+
 -- ---- theorems: a row reads back
 
 -- the row of a machine stands for that machine
@@ -65,7 +71,7 @@ unfolding machineOf strays rowOf
 row-back m h k = phases (m .phase) (m .last) h (le-ltb 4294967295 (m .taken) k)
   where
     lasts : (ph : Phase) (l : Last) → wrongLast l ≡ false → ltb 4294967295 (m .taken) ≡ false → ltb 2 (phaseNumber ph) ≡ false → phaseOf (phaseNumber ph) ≡ ph
-        → pick (pick (ltb 2 (phaseNumber ph)) true (pick (ltb 4294967295 (m .taken)) true (pick (eqb (lastNumber l) 255) false (ltb 15 (lastNumber l))))) Stray
+        → pick (ltb 2 (phaseNumber ph) || ltb 4294967295 (m .taken) || pick (eqb (lastNumber l) 255) false (ltb 15 (lastNumber l))) Stray
         (Is (record { phase = phaseOf (phaseNumber ph); last = lastOf (lastNumber l); taken = m .taken; place = m .place }))
         ≡ Is (record { phase = ph; last = l; taken = m .taken; place = m .place })
     lasts ph Nothing h t q e = simp (t, q, e)
@@ -74,7 +80,7 @@ row-back m h k = phases (m .phase) (m .last) h (le-ltb 4294967295 (m .taken) k)
         simp (t, q, e, h, n)
 
     phases : (ph : Phase) (l : Last) → wrongLast l ≡ false → ltb 4294967295 (m .taken) ≡ false
-        → pick (pick (ltb 2 (phaseNumber ph)) true (pick (ltb 4294967295 (m .taken)) true (pick (eqb (lastNumber l) 255) false (ltb 15 (lastNumber l))))) Stray
+        → pick (ltb 2 (phaseNumber ph) || ltb 4294967295 (m .taken) || pick (eqb (lastNumber l) 255) false (ltb 15 (lastNumber l))) Stray
         (Is (record { phase = phaseOf (phaseNumber ph); last = lastOf (lastNumber l); taken = m .taken; place = m .place }))
         ≡ Is (record { phase = ph; last = l; taken = m .taken; place = m .place })
     phases Begin l h t = lasts Begin l h t refl refl

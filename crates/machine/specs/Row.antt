@@ -1,11 +1,11 @@
 -- A machine as the numbers that a host keeps, in this order: phase 0 Begin, 1 Started, 2 IgnoreRest; last counter 0 to 15, or 255 for
 -- none; packets taken; next free place of the log.
-use mathlib.Core.Bool.{Bool, true, false}
+use mathlib.Core.Bool.{Bool, true, false, _||_}
 use mathlib.Core.List.{List, [], _∷_}
 use Prim.Native.Nat.{ℕ}
 use lib.Dec.{eqb, ltb}
 use lib.ListN.{getD}
-use Rattle.bits.specs.Answer.{pick}
+use Rattle.bits.specs.Answer.{pick, firstOf}
 use Rattle.bits.specs.Numbers.{done}
 use Rattle.machine.specs.declared.Phase.{Phase}
 use Rattle.machine.specs.declared.Phase.the-variants.{Begin, Started, IgnoreRest}
@@ -15,8 +15,8 @@ use Rattle.machine.specs.declared.Machine.{Machine}
 use Rattle.machine.specs.declared.row.RowRead.{RowRead}
 use Rattle.machine.specs.declared.row.RowRead.the-variants.{Is, Stray}
 use Rattle.machine.specs.Events.{asCounter}
-use Rattle.machine.specs.Step.{judged, stepOf, logOf}
-use Rattle.machine.specs.Run.{runJudged, reportOf, ranLog}
+use Rattle.machine.specs.Step.{notTaken, stepOf, logOf}
+use Rattle.machine.specs.Run.{notRun, reportOf, ranLog}
 
 -- ---- each number
 
@@ -39,10 +39,7 @@ lastNumber (At c) = c .val
 
 -- a number that stands for nothing: a phase above 2, a count above 32 bits, a counter above 15 but for 255
 unfoldable pub strays : List ℕ → Bool
-strays xs =
-    pick (ltb 2 (getD xs 0 0)) true
-    (pick (ltb 4_294_967_295 (getD xs 2 0)) true
-    (pick (eqb (getD xs 1 0) 255) false (ltb 15 (getD xs 1 0))))
+strays xs = ltb 2 (getD xs 0 0) || ltb 4_294_967_295 (getD xs 2 0) || pick (eqb (getD xs 1 0) 255) false (ltb 15 (getD xs 1 0))
 
 -- THE MACHINE THAT A ROW STANDS FOR, if for one
 unfoldable pub machineOf : List ℕ → RowRead
@@ -66,7 +63,7 @@ rowStep n xs l = record { number = n; row = xs; log = l }
 
 -- a row that stands for nothing is 14 where a wrong state is; a refusal leaves the row as it was lent
 abbrev pub stepBy : RowRead → List ℕ → List ℕ → List ℕ → RowStep
-stepBy Stray xs p l = rowStep (judged p true done) xs l
+stepBy Stray xs p l = rowStep (firstOf (notTaken p true [])) xs l
 stepBy (Is m) xs p l =
     rowStep (stepOf m p l .number) (pick (eqb (stepOf m p l .number) done) (rowOf (stepOf m p l .machine)) xs) (logOf m p l)
 
@@ -87,7 +84,7 @@ rowRun n xs l t e = record { number = n; row = xs; log = l; taken = t; ended = e
 
 -- a refusal leaves all as it was lent
 abbrev pub runBy : RowRead → List ℕ → List ℕ → List ℕ → ℕ → ℕ → RowRun
-runBy Stray xs bs l t e = rowRun (runJudged bs true) xs l t e
+runBy Stray xs bs l t e = rowRun (firstOf (notRun bs true)) xs l t e
 runBy (Is m) xs bs l t e =
     pick (eqb (reportOf m bs l .number) done)
     (rowRun done (rowOf (reportOf m bs l .machine)) (ranLog m bs l) (reportOf m bs l .packets) (reportOf m bs l .ended))
