@@ -2,7 +2,7 @@
 -- Assumes nothing.
 use mathlib.Core.Path.{_≡_, refl, sym, ap, ap₂, subst, _∙_}
 use mathlib.Core.Logic.{_↔_}
-use mathlib.Core.Bool.{Bool, true, false}
+use mathlib.Core.Bool.{Bool, true, false, not}
 use mathlib.Core.List.{List, [], _∷_, _++_, map}
 use Prim.Native.Nat.{ℕ, _+_, _-_, _*_, _/_, _%_, _≤_, _<_, min}
 use native.Mathlib.Omega.{arith}
@@ -10,8 +10,9 @@ use lib.ListN.{length, getD, take, drop}
 use lib.Seq.{take-at, drop-at}
 use lib.Dec.{ltb}
 use borrow.Author.Tests.{eq-eqb, ltb-true, ltb-false, le-ltb}
-use Rattle.bits.specs.Answer.{Answer, answer, pick, All}
+use Rattle.bits.specs.Answer.{Answer, answer, pick, Check, _gives_, unless, All}
 use Rattle.bits.specs.Numbers.{done, badField, tooLong, noRoom}
+use Rattle.bits.proofs.Checks.{accepted-by}
 use Rattle.pes.specs.Stream.{parsedId}
 use Rattle.log.specs.declared.Event.{Event}
 use Rattle.log.specs.Entry.{beginPacket}
@@ -30,7 +31,7 @@ use Rattle.writer.specs.declared.Route.{Route}
 use Rattle.writer.specs.declared.Unit.{Unit}
 use Rattle.writer.specs.Unit.{dataOf, countOf}
 use Rattle.writer.specs.Packets.{packetsOf, flat}
-use Rattle.writer.specs.Writer.{allOf, routeTests, unitTests, sizeTests, writeOf, outputOf}
+use Rattle.writer.specs.Writer.{allOf, routeTests, unitTests, sizeTests, notWritten, writeOf, outputOf}
 use Rattle.capacity.specs.Reads.{segment, segments, Delivers}
 use Rattle.capacity.specs.Accepted.{PacketsRead, HeaderRead}
 use Rattle.capacity.specs.Demand.{Typed, Permitted, Accepts, countGiven, outputBytes, outputPackets}
@@ -49,30 +50,18 @@ use Rattle.capacity.proofs.Least.{least-segment, segment-within}
 
 -- ---- 1. what the writer accepts: units that are permitted, where they have room
 
--- the writer's four tests in their order, with so many packets where all are passed
-abbrev tested : Bool → Bool → Bool → Bool → ℕ → Answer
-tested a b c d k =
-    pick a
-    (pick b
-    (pick c (pick d (answer noRoom []) (answer done (k ∷ []))) (answer tooLong []))
-    (answer badField []))
-    (answer badField [])
+-- the writer's four tests in their order
+abbrev tests : Bool → Bool → Bool → Bool → List Check
+tests a b c d = not a gives badField ∷ not b gives badField ∷ not c gives tooLong ∷ d gives noRoom ∷ []
 
 abbrev Unrefused : Answer → Type 0
 Unrefused a = (a .number ≡ badField → ⊥) × (a .number ≡ tooLong → ⊥)
 
-three-passed : (a b c d : Bool) (k : ℕ) → Unrefused (tested a b c d k) → (a ≡ true) × (b ≡ true) × (c ≡ true)
-three-passed true true true d k h = (refl, refl, refl)
-three-passed true true false d k h = absurd (h .1 refl)
-three-passed true false c d k h = absurd (h .0 refl)
-three-passed false b c d k h = absurd (h .0 refl)
-
-all-passed : (a b c d : Bool) (k : ℕ) → tested a b c d k .number ≡ done → tested a b c d k ≡ answer done (k ∷ [])
-all-passed true true true false k h = refl
-all-passed true true true true k h = let z : _≡_ {A = ℕ} 19 0 = h in absurd (omega arith)
-all-passed true true false d k h = let z : _≡_ {A = ℕ} 18 0 = h in absurd (omega arith)
-all-passed true false c d k h = let z : _≡_ {A = ℕ} 17 0 = h in absurd (omega arith)
-all-passed false b c d k h = let z : _≡_ {A = ℕ} 17 0 = h in absurd (omega arith)
+three-passed : (a b c d : Bool) (s : Answer) → Unrefused (unless (tests a b c d) s) → (a ≡ true) × (b ≡ true) × (c ≡ true)
+three-passed true true true d s h = (refl, refl, refl)
+three-passed true true false d s h = absurd (h .1 refl)
+three-passed true false c d s h = absurd (h .0 refl)
+three-passed false b c d s h = absurd (h .0 refl)
 
 unrefused : (d : Bool) (k : ℕ) → Unrefused (pick d (answer noRoom []) (answer done (k ∷ [])))
 unrefused true k = (λ z. let y : _≡_ {A = ℕ} 19 17 = z in omega arith, λ z. let y : _≡_ {A = ℕ} 19 18 = z in omega arith)
@@ -82,14 +71,10 @@ module _ (r : Route) (u : Unit) (payload out : List ℕ) where
   abbrev narrow : Bool
   narrow = ltb (length out / 188) (countOf u (length payload))
 
-  writes : writeOf r u payload out
-      ≡ tested (allOf (routeTests r)) (allOf (unitTests u)) (allOf (sizeTests u (length payload))) narrow (countOf u (length payload))
-  unfolding writeOf
-  writes = refl
-
   unrefused-permitted : Typed u → Unrefused (writeOf r u payload out) → Permitted r u (length payload)
+  unfolding writeOf
   unrefused-permitted t h =
-      let p = three-passed (allOf (routeTests r)) (allOf (unitTests u)) (allOf (sizeTests u (length payload))) narrow _ (rw writes at h) in
+      let p = three-passed (allOf (routeTests r)) (allOf (unitTests u)) (allOf (sizeTests u (length payload))) narrow _ h in
       record { route-good = p .0; unit-good = p .1; size-good = p .2; typed = t }
 
   -- AN ACCEPTED CALL IS OF A PERMITTED UNIT, and is answered by its count
@@ -97,15 +82,16 @@ module _ (r : Route) (u : Unit) (payload out : List ℕ) where
   accepted-permitted h t = unrefused-permitted t (λ z. omega (arith, h), λ z. omega (arith, h))
 
   pub accepted-answer : Accepts r u payload out → writeOf r u payload out ≡ answer done (countOf u (length payload) ∷ [])
-  accepted-answer h =
-      writes ∙ all-passed (allOf (routeTests r)) (allOf (unitTests u)) (allOf (sizeTests u (length payload))) narrow _ (rw writes at h)
+  unfolding writeOf
+  accepted-answer h = accepted-by (notWritten r u (length payload) (length out)) _ (omega arith) h _
 
   pub accepted-count : Accepts r u payload out → countGiven r u payload out ≡ countOf u (length payload)
   accepted-count h = ap (λ (a : Answer). getD (a .values) 0 0) (accepted-answer h)
 
   module _ (ok : Permitted r u (length payload)) where
     pub permitted-answer : writeOf r u payload out ≡ pick narrow (answer noRoom []) (answer done (countOf u (length payload) ∷ []))
-    permitted-answer = writes ∙ rw (ok .route-good, ok .unit-good, ok .size-good)
+    unfolding writeOf
+    permitted-answer = rw (ok .route-good, ok .unit-good, ok .size-good)
 
     -- a permitted unit with room is accepted
     pub has-room : 188 * countOf u (length payload) ≤ length out → writeOf r u payload out ≡ answer done (countOf u (length payload) ∷ [])

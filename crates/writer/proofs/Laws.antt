@@ -1,7 +1,7 @@
 -- What the definitions of `specs/` come to, in each case. The functions' proofs cite these, and so do callers'.
 -- Assumes nothing.
 use mathlib.Core.Path.{_≡_, refl, sym, ap, _∙_}
-use mathlib.Core.Bool.{Bool, true, false}
+use mathlib.Core.Bool.{Bool, true, false, not}
 use mathlib.Core.List.{List, [], _∷_, _++_, append-assoc, append-nil}
 use Prim.Native.Nat.{ℕ, zero, suc, _+_, _-_, _*_, _/_, _%_, _^_, _≤_, _<_, min}
 use native.Mathlib.Omega.{arith}
@@ -11,8 +11,9 @@ use lib.ListN.{take-append-drop, replicate-append-replicate}
 use lib.Seq.{take-all, drop-drop, take-at, drop-at, take-append-add, drop-append-add, length-take-le}
 use lib.Dec.{leb, ltb}
 use borrow.Author.Tests.{lt-ltb, le-ltb, lt-leb, le-leb, ltb-true, ltb-false, leb-true, leb-false, ne-eqb}
-use Rattle.bits.specs.Answer.{Answer, answer, pick, truth, placedAt}
+use Rattle.bits.specs.Answer.{Answer, answer, pick, truth, placedAt, Check}
 use Rattle.bits.specs.Pack.{Part, joined, bytesOf, number}
+use Rattle.bits.proofs.Checks.{Off, none-holds, first-holds}
 use Rattle.bits.proofs.Packs.{written, length-bytesOf}
 use Rattle.bits.proofs.Parts.{part-rest, placed-none, placed-at, length-placed, placed-append}
 use Rattle.pes.specs.Stream.{readId, parsedId}
@@ -31,7 +32,8 @@ use Rattle.writer.specs.Unit.{dataOf, statedLength, countOf}
 use Rattle.writer.specs.Packets.{headTable, timesImage, escrTable, escrImage, rateTable, trickTable, copyTable, crcTable, image}
 use Rattle.writer.specs.Packets.{fieldsImage, headerImage}
 use Rattle.writer.specs.Packets.{packetTable, stuffing, carrier, carried, packetsOf, flat, Placed}
-use Rattle.writer.specs.Writer.{allOf, within, timesFit, escrFits, fits, routeTests, unitTests, sizeTests, writeOf, outputOf}
+use Rattle.writer.specs.Writer.{allOf, within, timesFit, escrFits, fits, routeTests, unitTests, sizeTests, notWritten}
+use Rattle.writer.specs.Writer.{writeOf, outputOf}
 
 -- ---- the tests of the route and of the unit, in each case
 
@@ -618,37 +620,42 @@ module _ (r : Route) (u : Unit) (payload out : List ℕ) where
   abbrev n : ℕ
   n = length payload
 
+  abbrev not-written : List Check
+  not-written = notWritten r u n (length out)
+
   -- a refusal, and the output as it was lent
-  refusal : (k : ℕ) → 0 < k → writeOf r u payload out ≡ answer k []
+  refusal : (k : ℕ) → 0 < k → answer k [] ≡ writeOf r u payload out
       → (answer k [] ≡ writeOf r u payload out) × (out ≡ outputOf r u payload out)
   unfolding outputOf
-  refusal k h e = (sym e, rw (e, ne-eqb k 0 (omega arith)))
+  refusal k h e = (e, rw (← e, ne-eqb k 0 (omega arith)))
 
   pub write-route : allOf (routeTests r) ≡ false → (answer 17 [] ≡ writeOf r u payload out) × (out ≡ outputOf r u payload out)
   unfolding writeOf
-  write-route a = refusal 17 (omega arith) (rw a)
+  write-route a = refusal 17 (omega arith) (first-holds not-written 0 tt (ap not a) _)
 
   module _ (a : allOf (routeTests r) ≡ true) where
     pub write-unit : allOf (unitTests u) ≡ false → (answer 17 [] ≡ writeOf r u payload out) × (out ≡ outputOf r u payload out)
     unfolding writeOf
-    write-unit b = refusal 17 (omega arith) (rw (a, b))
+    write-unit b = refusal 17 (omega arith) (first-holds not-written 1 (ap not a, tt) (ap not b) _)
 
     module _ (b : allOf (unitTests u) ≡ true) where
       pub write-long : allOf (sizeTests u n) ≡ false → (answer 18 [] ≡ writeOf r u payload out) × (out ≡ outputOf r u payload out)
       unfolding writeOf
-      write-long c = refusal 18 (omega arith) (rw (a, b, c))
+      write-long c = refusal 18 (omega arith) (first-holds not-written 2 (ap not a, (ap not b, tt)) (ap not c) _)
 
       module _ (c : allOf (sizeTests u n) ≡ true) where
         pub write-full : (k : ℕ) → k ≡ countOf u n → length out / 188 < k
             → (answer 19 [] ≡ writeOf r u payload out) × (out ≡ outputOf r u payload out)
         unfolding writeOf
-        write-full k e h = refusal 19 (omega arith) (rw (a, b, c, lt-ltb (length out / 188) (countOf u n) (omega arith)))
+        write-full k e h =
+            refusal 19 (omega arith)
+            (first-holds not-written 3 (ap not a, (ap not b, (ap not c, tt))) (lt-ltb (length out / 188) (countOf u n) (omega arith)) _)
 
         pub write-done : (k : ℕ) (after : List ℕ) → k ≡ countOf u n → k ≤ length out / 188
             → after ≡ flat (packetsOf r u payload) ++ drop (188 * k) out
             → (answer 0 (k ∷ []) ≡ writeOf r u payload out) × (after ≡ outputOf r u payload out)
         unfolding writeOf outputOf
         write-done k after e h w =
-            let f : writeOf r u payload out ≡ answer 0 (k ∷ []) = rw (a, b, c, le-ltb (length out / 188) (countOf u n) (omega arith), ← e)
-            in
+            let off : Off not-written = (ap not a, (ap not b, (ap not c, (le-ltb (length out / 188) (countOf u n) (omega arith), tt)))) in
+            let f : writeOf r u payload out ≡ answer 0 (k ∷ []) = none-holds not-written off _ ∙ rw e in
             (sym f, w ∙ rw (f, e))

@@ -1,10 +1,10 @@
 -- What the writer answers, and what it leaves in its output.
-use mathlib.Core.Bool.{Bool, true, false}
+use mathlib.Core.Bool.{Bool, true, false, not}
 use mathlib.Core.List.{List, [], _∷_, _++_}
 use Prim.Native.Nat.{ℕ, _-_, _*_, _/_, _^_}
 use lib.ListN.{length, drop}
 use lib.Dec.{eqb, leb, ltb}
-use Rattle.bits.specs.Answer.{Answer, answer, pick}
+use Rattle.bits.specs.Answer.{Answer, answer, pick, Check, _gives_, unless}
 use Rattle.bits.specs.Numbers.{done, badField, tooLong, noRoom}
 use Rattle.pes.specs.Stream.{parsedId}
 use Rattle.writer.specs.declared.Route.{Route}
@@ -64,17 +64,18 @@ unitTests u =
 unfoldable pub sizeTests : Unit → ℕ → List Bool
 sizeTests u n = leb n 65536 ∷ leb (statedLength u n) 65535 ∷ []
 
--- 17, 18 and 19 in this order, else the number of packets
+-- what is not written, with n bytes of payload and so many bytes of output: 17, 18 and 19 in this order
+abbrev pub notWritten : Route → Unit → ℕ → ℕ → List Check
+notWritten r u n room =
+    not (allOf (routeTests r)) gives badField
+    ∷ not (allOf (unitTests u)) gives badField
+    ∷ not (allOf (sizeTests u n)) gives tooLong
+    ∷ ltb (room / 188) (countOf u n) gives noRoom
+    ∷ []
+
+-- else the number of packets
 unfoldable pub writeOf : Route → Unit → List ℕ → List ℕ → Answer
-writeOf r u payload out =
-    pick (allOf (routeTests r))
-    (pick (allOf (unitTests u))
-    (pick (allOf (sizeTests u (length payload)))
-    (pick (ltb (length out / 188) (countOf u (length payload))) (answer noRoom [])
-    (answer done (countOf u (length payload) ∷ [])))
-    (answer tooLong []))
-    (answer badField []))
-    (answer badField [])
+writeOf r u payload out = unless (notWritten r u (length payload) (length out)) (answer done (countOf u (length payload) ∷ []))
 
 -- the whole output afterwards: the packets, and what was there past them; on a refusal as it was lent
 unfoldable pub outputOf : Route → Unit → List ℕ → List ℕ → List ℕ
