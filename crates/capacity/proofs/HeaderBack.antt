@@ -1,6 +1,6 @@
 -- What is read from a header that the writer makes: every field as given, and the payload after it.
 -- Assumes nothing.
-use mathlib.Core.Path.{_≡_, refl, sym, ap, ap₂, _∙_}
+use mathlib.Core.Path.{_≡_, refl, sym, ap, _∙_}
 use mathlib.Core.Bool.{Bool, true, false}
 use mathlib.Core.List.{List, [], _∷_, _++_, append-assoc}
 use Prim.Native.Nat.{ℕ, _+_, _-_, _*_, _/_, _%_, _^_, _≤_, _<_}
@@ -9,7 +9,7 @@ use lib.ListN.{length, take, drop, getD, length-append, length-drop}
 use lib.Seq.{drop-at, drop-drop, take-all}
 use borrow.Author.Tests.{le-ltb, eq-eqb, ne-eqb}
 use Rattle.bits.specs.Answer.{Answer, answer, truth, unless, partOf}
-use Rattle.bits.specs.Field.{bit, field}
+use Rattle.bits.specs.Field.{bit, field, flag}
 use Rattle.bits.specs.Pack.{joined, bytesOf}
 use Rattle.bits.proofs.Fields.{field-one, field-split, field-left, field-drop, bit-left, bit-below, in-byte}
 use Rattle.bits.proofs.Packs.{length-bytesOf, RowIn, RowFits, row-front}
@@ -18,10 +18,12 @@ use Rattle.timestamp.proofs.Theorems.{read-back, stamp-length}
 use Rattle.pes.specs.Stream.{parsedId}
 use Rattle.pes.specs.Head.{notHead, idOf, packetLength}
 use Rattle.contents.specs.Contents.{dataLength, timesSize, escrAt, rateAt, trickAt, copyInfoAt, crcAt, fieldsEnd, payloadAt, readFixed}
-use Rattle.contents.specs.Contents.{scramblingBit, dataLengthBit}
-use Rattle.contents.specs.Contents.{readPtsDts, escrBase, escrExtension, readEscr, rateOf, readEsRate, readCopyInfo, readCrc, readExtension}
+use Rattle.contents.specs.Contents.{scramblingBit, dataLengthBit, escrBit, rateBit, trickBit, copyInfoBit, crcBit}
+use Rattle.contents.specs.Contents.{readContents, readPtsDts, readEscr, readEsRate, readCopyInfo, readCrc, readExtension}
+use Rattle.contents.specs.Layout.{rateTable, trickTable, copyTable, crcTable}
 use Rattle.contents.specs.Trick.{readRawTrick}
-use Rattle.contents.proofs.Laws.{Accepted, contents-is, field-off, field-on}
+use Rattle.contents.proofs.Laws.{Accepted, contents-is, field-off}
+use Rattle.contents.proofs.Theorems.{escr-at-back, rate-at-back, trick-at-back, copy-info-at-back, crc-at-back}
 use Rattle.pes_header.specs.Payload.{headerPayload, payloadBytes}
 use Rattle.writer.specs.declared.Times.{Times}
 use Rattle.writer.specs.declared.Times.the-variants.{Untimed, Pts, Both}
@@ -29,8 +31,7 @@ use Rattle.writer.specs.declared.Escr.{Escr}
 use Rattle.writer.specs.declared.Unit.{Unit}
 use Rattle.writer.specs.Unit.{Field, absent, holds, rateField, byteField, crcField, timesFlags, escrFlag, fieldFlag, timesBytes, dataOf}
 use Rattle.writer.specs.Unit.{statedLength}
-use Rattle.writer.specs.Packets.{headTable, timesImage, escrTable, escrImage, rateTable, trickTable, copyTable, crcTable, image}
-use Rattle.writer.specs.Packets.{fieldsImage, headerImage}
+use Rattle.writer.specs.Packets.{headTable, timesImage, escrImage, image, fieldsImage, headerImage}
 use Rattle.writer.proofs.Laws.{times-length, escr-length, image-length, header-length}
 use Rattle.capacity.specs.Reads.{givenTimes, givenEscr, givenField, givenBit, contents, HasFields}
 use Rattle.capacity.specs.Demand.{atMost}
@@ -129,45 +130,41 @@ module _ (c rest : List ℕ) (h : Accepted c) where
       let e″ : drop 8 c ≡ stampBytes 1 q ++ rest = skip (stampBytes 3 p) _ c 3 5 e′ (stamp-length 3 p) in
       h .is _ ∙ simp (b, d, stamp-read 3 p (drop 3 c) _ (k .0) e′, stamp-read 1 q (drop 8 c) rest (k .1) e″)
 
-  escr-read : (f : Escr) → EscrFits f → bit c 10 ≡ escrFlag f → drop (escrAt c) c ≡ escrImage f ++ rest → readEscr c ≡ givenEscr f
-  unfolding escrImage escrBase escrExtension
-  escr-read Escr.Absent k f e = sym (field-off c 10 _ h f)
-  escr-read (Escr.Present b x) k f e =
-      let t = escrTable b x in
-      let r : (i : ℕ) → i < 9 → RowFits t i 48 → RowIn t i (bytesOf 6 (joined t) ++ rest) = λ i k l. row-front t 6 i rest refl k l in
-      field-on c 10 _ h f ∙ rw e (ap₂ (λ (y z : ℕ). answer 0 (y ∷ z ∷ []))
-      (omega (arith, r 1 (omega arith) (omega arith), r 3 (omega arith) (omega arith), r 5 (omega arith) (omega arith)))
-      (omega (arith, r 7 (omega arith) (omega arith))))
+  -- the reader's own theorem asks for the plain facts
+  accepts : readContents c ≡ answer 0 []
+  accepts = h .is (answer 0 [])
 
-  rate-read : (f : Field) → atMost (2 ^ 22 - 1) f → bit c 11 ≡ fieldFlag f → drop (rateAt c) c ≡ image 3 rateTable f ++ rest
+  on : (i : ℕ) → bit c i ≡ 1 → flag c i ≡ true
+  on i e = eq-eqb (bit c i) 1 e
+
+  escr-read : (f : Escr) → EscrFits f → bit c escrBit ≡ escrFlag f → drop (escrAt c) c ≡ escrImage f ++ rest → readEscr c ≡ givenEscr f
+  unfolding escrImage
+  escr-read Escr.Absent k f e = sym (field-off c escrBit _ h f)
+  escr-read (Escr.Present b x) k f e = escr-at-back c rest accepts b x (k .0) (omega arith) (on escrBit f) e
+
+  rate-read : (f : Field) → atMost (2 ^ 22 - 1) f → bit c rateBit ≡ fieldFlag f → drop (rateAt c) c ≡ image 3 rateTable f ++ rest
       → readEsRate c ≡ givenField f
-  unfolding rateOf image
-  rate-read absent k f e = sym (field-off c 11 _ h f)
-  rate-read (holds v) k f e =
-      field-on c 11 _ h f ∙ rw e (given (omega (arith, row-front (rateTable v) 3 1 rest refl (omega arith) (omega arith))))
+  unfolding image
+  rate-read absent k f e = sym (field-off c rateBit _ h f)
+  rate-read (holds v) k f e = rate-at-back c rest accepts v (omega arith) (on rateBit f) e
 
-  trick-read : (f : Field) → atMost 255 f → bit c 12 ≡ fieldFlag f → drop (trickAt c) c ≡ image 1 trickTable f ++ rest
+  trick-read : (f : Field) → atMost 255 f → bit c trickBit ≡ fieldFlag f → drop (trickAt c) c ≡ image 1 trickTable f ++ rest
       → readRawTrick c ≡ givenField f
   unfolding image
-  trick-read absent k f e = sym (field-off c 12 _ h f)
-  trick-read (holds v) k f e =
-      field-on c 12 _ h f ∙ rw e (given (omega (arith, row-front (trickTable v) 1 0 rest refl (omega arith) (omega arith))))
+  trick-read absent k f e = sym (field-off c trickBit _ h f)
+  trick-read (holds v) k f e = trick-at-back c rest accepts v (omega arith) (on trickBit f) e
 
-  copy-read : (f : Field) → atMost 127 f → bit c 13 ≡ fieldFlag f → drop (copyInfoAt c) c ≡ image 1 copyTable f ++ rest
+  copy-read : (f : Field) → atMost 127 f → bit c copyInfoBit ≡ fieldFlag f → drop (copyInfoAt c) c ≡ image 1 copyTable f ++ rest
       → readCopyInfo c ≡ givenField f
   unfolding image
-  copy-read absent k f e = sym (field-off c 13 _ h f)
-  copy-read (holds v) k f e =
-      let ys = bytesOf 1 (joined (copyTable v)) ++ rest in
-      let m : bit ys 0 ≡ 1 = omega (arith, field-one ys 0, row-front (copyTable v) 1 0 rest refl (omega arith) (omega arith)) in
-      field-on c 13 _ h f ∙ rw (e, m) (given (omega (arith, row-front (copyTable v) 1 1 rest refl (omega arith) (omega arith))))
+  copy-read absent k f e = sym (field-off c copyInfoBit _ h f)
+  copy-read (holds v) k f e = copy-info-at-back c rest accepts v (omega arith) (on copyInfoBit f) e
 
-  crc-read : (f : Field) → atMost 65535 f → bit c 14 ≡ fieldFlag f → drop (crcAt c) c ≡ image 2 crcTable f ++ rest
+  crc-read : (f : Field) → atMost 65535 f → bit c crcBit ≡ fieldFlag f → drop (crcAt c) c ≡ image 2 crcTable f ++ rest
       → readCrc c ≡ givenField f
   unfolding image
-  crc-read absent k f e = sym (field-off c 14 _ h f)
-  crc-read (holds v) k f e =
-      field-on c 14 _ h f ∙ rw e (given (omega (arith, row-front (crcTable v) 2 0 rest refl (omega arith) (omega arith))))
+  crc-read absent k f e = sym (field-off c crcBit _ h f)
+  crc-read (holds v) k f e = crc-at-back c rest accepts v (omega arith) (on crcBit f) e
 
 -- ---- the whole header, with the bytes that follow it
 

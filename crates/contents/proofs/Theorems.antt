@@ -1,17 +1,21 @@
--- The crate's theorems that belong to no one function: one answer only, and where the original's sense of a field is the standard's.
+-- The crate's theorems that belong to no one function: one answer only, where the original's sense of a field is the standard's, and that
+-- what a writer lays out is read back.
 -- That both parts lie within the contents is in `Laws`, where the functions cite it.
 -- Assumes nothing.
-use mathlib.Core.Path.{_≡_, refl, sym, ap, ap₂}
+use mathlib.Core.Path.{_≡_, refl, sym, ap, ap₂, _∙_}
 use mathlib.Core.Bool.{Bool, true, false}
-use mathlib.Core.List.{List, [], _∷_}
+use mathlib.Core.List.{List, [], _∷_, _++_}
 use mathlib.Core.Logic.{_↔_, _⊎_, inl, inr}
-use Prim.Native.Nat.{ℕ}
+use Prim.Native.Nat.{ℕ, _^_, _<_}
 use native.Mathlib.Omega.{arith}
-use lib.ListN.{getD}
+use lib.ListN.{getD, drop}
 use lib.Dec.{eqb, leb}
 use borrow.Author.Tests.{eqb-true}
-use Rattle.bits.specs.Answer.{Answer, pick}
-use Rattle.bits.specs.Field.{bit, field}
+use Rattle.bits.specs.Answer.{Answer, answer, pick}
+use Rattle.bits.specs.Field.{bit, field, flag}
+use Rattle.bits.specs.Numbers.{done}
+use Rattle.bits.specs.Pack.{joined, bytesOf}
+use Rattle.bits.proofs.Packs.{RowIn, RowFits, row-front}
 use Rattle.bits.proofs.Tests.{one-answer}
 use Rattle.contents.specs.declared.Refusal.{Refusal}
 use Rattle.contents.specs.declared.ContentsRead.{ContentsRead}
@@ -39,8 +43,14 @@ use Rattle.contents.specs.Given.{refusal, givenContents, givenByte, give
 use Rattle.contents.specs.Given.{givenOriginal, givenStamp, givenPtsDts, givenEscr}
 use Rattle.contents.specs.Given.{givenRateMade, givenRateNumber, givenEsRate, truncation, trickValues, givenTrick, givenField}
 use Rattle.contents.specs.Given.{givenCopyInfo, givenCrc, givenPart}
-use Rattle.contents.specs.Trick.{control, trickOf, standardTrick}
-use Rattle.bits.proofs.Fields.{truth-bit}
+use Rattle.contents.specs.Contents.{escrBit, rateBit, trickBit, copyInfoBit, crcBit, escrAt, rateAt, trickAt, copyInfoAt, crcAt}
+use Rattle.contents.specs.Contents.{flagged, readContents, escrBase, escrExtension, escrAnswer, readEscr, rateOf, readEsRate}
+use Rattle.contents.specs.Contents.{copyInfoOf, readCopyInfo, readCrc}
+use Rattle.contents.specs.Layout.{escrTable, escrBytes, rateTable, esRateBytes, trickTable, trickBytes, copyTable, copyInfoBytes}
+use Rattle.contents.specs.Layout.{crcTable, crcBytes}
+use Rattle.contents.specs.Trick.{control, trickOf, standardTrick, readRawTrick}
+use Rattle.bits.proofs.Fields.{truth-bit, field-one}
+use Rattle.contents.proofs.Laws.{Accepted, accepted-by, field-on}
 
 -- ---- one answer only: any two answers that meet a reader's promise are equal
 
@@ -322,3 +332,54 @@ trick-only-if xs = go (eqb (control xs) 0) refl (eqb (control xs) 1) (eqb (contr
 
 pub trick-agrees : (xs : List ℕ) → (trickOf xs ≡ standardTrick xs) ↔ Agreeing xs
 trick-agrees xs = (trick-only-if xs, trick-if xs)
+
+-- ---- what a writer lays out by the tables is read back: the field's own bytes, whatever follows them
+
+module _ (rest : List ℕ) where
+  pub escr-back : (b e : ℕ) → b < 2 ^ 33 → e < 2 ^ 9 → escrAnswer (escrBytes b e ++ rest) ≡ answer done (b ∷ e ∷ [])
+  unfolding escrBase escrExtension
+  escr-back b e h l =
+      let t = escrTable b e in
+      let r : (i : ℕ) → i < 9 → RowFits t i 48 → RowIn t i (escrBytes b e ++ rest) = λ i k l. row-front t 6 i rest refl k l in
+      ap₂ (λ (y z : ℕ). answer 0 (y ∷ z ∷ []))
+      (omega (arith, r 1 (omega arith) (omega arith), r 3 (omega arith) (omega arith), r 5 (omega arith) (omega arith)))
+      (omega (arith, r 7 (omega arith) (omega arith)))
+
+  pub rate-back : (v : ℕ) → v < 2 ^ 22 → rateOf (esRateBytes v ++ rest) ≡ v
+  unfolding rateOf
+  rate-back v h = omega (arith, row-front (rateTable v) 3 1 rest refl (omega arith) (omega arith))
+
+  pub trick-back : (v : ℕ) → v < 2 ^ 8 → field (trickBytes v ++ rest) 0 8 ≡ v
+  trick-back v h = omega (arith, row-front (trickTable v) 1 0 rest refl (omega arith) (omega arith))
+
+  pub copy-info-back : (v : ℕ) → v < 2 ^ 7 → copyInfoOf (copyInfoBytes v ++ rest) ≡ answer done (v ∷ [])
+  copy-info-back v h =
+      let ys = copyInfoBytes v ++ rest in
+      let m : bit ys 0 ≡ 1 = omega (arith, field-one ys 0, row-front (copyTable v) 1 0 rest refl (omega arith) (omega arith)) in
+      let e : field ys 1 7 ≡ v = omega (arith, row-front (copyTable v) 1 1 rest refl (omega arith) (omega arith)) in
+      rw (m, e)
+
+  pub crc-back : (v : ℕ) → v < 2 ^ 16 → field (crcBytes v ++ rest) 0 16 ≡ v
+  crc-back v h = omega (arith, row-front (crcTable v) 2 0 rest refl (omega arith) (omega arith))
+
+-- and by its reader, at the field's place in contents that are accepted
+module _ (c rest : List ℕ) (h : readContents c ≡ answer done []) where
+  read-there : (i at : ℕ) (f : List ℕ → Answer) (xs : List ℕ) → flag c i ≡ true → drop at c ≡ xs → flagged i c (f (drop at c)) ≡ f xs
+  read-there i at f xs g e = field-on c i _ (accepted-by c (ap (λ (a : Answer). a .number) h)) (eqb-true (bit c i) 1 g) ∙ ap f e
+
+  pub escr-at-back : (b e : ℕ) → b < 2 ^ 33 → e < 2 ^ 9 → flag c escrBit ≡ true → drop (escrAt c) c ≡ escrBytes b e ++ rest
+      → readEscr c ≡ answer done (b ∷ e ∷ [])
+  escr-at-back b e k l f d = read-there escrBit (escrAt c) escrAnswer _ f d ∙ escr-back rest b e k l
+
+  pub rate-at-back : (v : ℕ) → v < 2 ^ 22 → flag c rateBit ≡ true → drop (rateAt c) c ≡ esRateBytes v ++ rest → readEsRate c ≡ answer done (v ∷ [])
+  rate-at-back v k f d = read-there rateBit (rateAt c) (λ xs. answer 0 (rateOf xs ∷ [])) _ f d ∙ rw (rate-back rest v k)
+
+  pub trick-at-back : (v : ℕ) → v < 2 ^ 8 → flag c trickBit ≡ true → drop (trickAt c) c ≡ trickBytes v ++ rest → readRawTrick c ≡ answer done (v ∷ [])
+  trick-at-back v k f d = read-there trickBit (trickAt c) (λ xs. answer 0 (field xs 0 8 ∷ [])) _ f d ∙ rw (trick-back rest v k)
+
+  pub copy-info-at-back : (v : ℕ) → v < 2 ^ 7 → flag c copyInfoBit ≡ true → drop (copyInfoAt c) c ≡ copyInfoBytes v ++ rest
+      → readCopyInfo c ≡ answer done (v ∷ [])
+  copy-info-at-back v k f d = read-there copyInfoBit (copyInfoAt c) copyInfoOf _ f d ∙ copy-info-back rest v k
+
+  pub crc-at-back : (v : ℕ) → v < 2 ^ 16 → flag c crcBit ≡ true → drop (crcAt c) c ≡ crcBytes v ++ rest → readCrc c ≡ answer done (v ∷ [])
+  crc-at-back v k f d = read-there crcBit (crcAt c) (λ xs. answer 0 (field xs 0 16 ∷ [])) _ f d ∙ rw (crc-back rest v k)

@@ -1,3 +1,4 @@
 pub mod Contents
 pub mod Given
+pub mod Layout
 pub mod Trick

@@ -20,6 +20,7 @@ use Rattle.pes.specs.Stream.{readId, parsedId}
 use Rattle.pes.proofs.Laws.{kind-agrees}
 use Rattle.timestamp.specs.Stamp.{stampBytes}
 use Rattle.timestamp.proofs.Theorems.{stamp-length}
+use Rattle.contents.specs.Layout.{escrTable, escrBytes, rateTable, trickTable, copyTable, crcTable}
 use Rattle.writer.specs.declared.Route.{Route}
 use Rattle.writer.specs.declared.Times.{Times}
 use Rattle.writer.specs.declared.Times.the-variants.{Untimed, Pts, Both}
@@ -29,8 +30,7 @@ use Rattle.writer.specs.declared.Byte.{Byte}
 use Rattle.writer.specs.declared.Unit.{Unit}
 use Rattle.writer.specs.Unit.{Field, absent, holds, rateField, byteField, crcField, timesFlags, escrFlag, fieldFlag, timesBytes}
 use Rattle.writer.specs.Unit.{dataOf, statedLength, countOf}
-use Rattle.writer.specs.Packets.{headTable, timesImage, escrTable, escrImage, rateTable, trickTable, copyTable, crcTable, image}
-use Rattle.writer.specs.Packets.{fieldsImage, headerImage}
+use Rattle.writer.specs.Packets.{headTable, timesImage, escrImage, image, fieldsImage, headerImage}
 use Rattle.writer.specs.Packets.{packetTable, stuffing, carrier, carried, packetsOf, flat, Placed}
 use Rattle.writer.specs.Writer.{allOf, within, timesFit, escrFits, fits, routeTests, unitTests, sizeTests, notWritten}
 use Rattle.writer.specs.Writer.{writeOf, outputOf}
@@ -281,7 +281,7 @@ module _ (d : List ℕ) (p : ℕ) where
   unfolding escrImage
   escr-none f e = placed-nothing d p 6 (escrImage f) (rw e)
 
-  pub escr-there : (f : Escr) (b x : ℕ) (xs after : List ℕ) → f ≡ Escr.Present b x → xs ≡ bytesOf 6 (joined (escrTable b x))
+  pub escr-there : (f : Escr) (b x : ℕ) (xs after : List ℕ) → f ≡ Escr.Present b x → xs ≡ escrBytes b x
       → after ≡ placedAt d p xs
       → Placed d p (escrImage f) 6 (p + 6) after
   unfolding escrImage

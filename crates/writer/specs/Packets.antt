@@ -7,6 +7,7 @@ use lib.Dec.{ltb}
 use Rattle.bits.specs.Answer.{pick, truth, placedAt}
 use Rattle.bits.specs.Pack.{Part, part, joined, bytesOf}
 use Rattle.timestamp.specs.Stamp.{stampBytes}
+use Rattle.contents.specs.Layout.{escrBytes, rateTable, trickTable, copyTable, crcTable}
 use Rattle.writer.specs.declared.Route.{Route}
 use Rattle.writer.specs.declared.Times.{Times}
 use Rattle.writer.specs.declared.Times.the-variants.{Untimed, Pts, Both}
@@ -34,30 +35,10 @@ timesImage Untimed = []
 timesImage (Pts p) = stampBytes 2 p
 timesImage (Both p d) = stampBytes 3 p ++ stampBytes 1 d
 
--- ESCR: 2 reserved bits and every marker are 1
-abbrev pub escrTable : ℕ → ℕ → List Part
-escrTable b e =
-    part 2 3
-    ∷ part 3 (b / 2 ^ 30) ∷ part 1 1
-    ∷ part 15 (b / 2 ^ 15) ∷ part 1 1
-    ∷ part 15 b ∷ part 1 1
-    ∷ part 9 e ∷ part 1 1 ∷ []
-
+-- the flagged fields by their rows (contents' Layout)
 unfoldable pub escrImage : Escr → List ℕ
 escrImage Escr.Absent = []
-escrImage (Escr.Present b e) = bytesOf 6 (joined (escrTable b e))
-
-abbrev pub rateTable : ℕ → List Part
-rateTable v = part 1 1 ∷ part 22 v ∷ part 1 1 ∷ []
-
-abbrev pub trickTable : ℕ → List Part
-trickTable v = part 8 v ∷ []
-
-abbrev pub copyTable : ℕ → List Part
-copyTable v = part 1 1 ∷ part 7 v ∷ []
-
-abbrev pub crcTable : ℕ → List Part
-crcTable v = part 16 v ∷ []
+escrImage (Escr.Present b e) = escrBytes b e
 
 -- k bytes by a table, where the field is there
 unfoldable pub image : ℕ → (ℕ → List Part) → Field → List ℕ

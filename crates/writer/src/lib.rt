@@ -11,8 +11,8 @@ ghost use Rattle.timestamp.specs.Stamp.{stampBytes};
 ghost use Rattle.pes.specs.Stream.{parsedId};
 ghost use Rattle.writer.specs.Unit.{rateField, byteField, crcField, timesFlags, escrFlag, fieldFlag, timesBytes};
 ghost use Rattle.writer.specs.Unit.{dataOf, statedLength, countOf};
-ghost use Rattle.writer.specs.Packets.{headTable, escrTable, rateTable, trickTable, copyTable, crcTable};
-ghost use Rattle.writer.specs.Packets.{timesImage, escrImage, image, headerImage};
+ghost use Rattle.contents.specs.Layout.{escrBytes, esRateBytes, rateTable, trickTable, copyTable, crcTable};
+ghost use Rattle.writer.specs.Packets.{headTable, timesImage, escrImage, image, headerImage};
 ghost use Rattle.writer.specs.Packets.{packetTable, stuffing, carrier, carried, packetsOf, flat, Placed};
 ghost use Rattle.writer.specs.Writer.{allOf, within, timesFit, escrFits, fits, routeTests, unitTests, sizeTests};
 ghost use Rattle.writer.specs.Writer.{givenWritten, writeOf, outputOf};
@@ -320,7 +320,7 @@ fn stamp(prefix: u8, time: u64) -> [u8; 5]
 }
 
 fn escr_bytes(base: u64, extension: u16) -> [u8; 6]
-    ensures { λ r. ⌜ r ≡ bytesOf 6 (joined (escrTable base extension)) ⌝ }
+    ensures { λ r. ⌜ r ≡ escrBytes base extension ⌝ }
 {
     let n = 211106232532992
         + base / 1073741824 % 8 * 8796093022208
@@ -342,7 +342,7 @@ fn escr_bytes(base: u64, extension: u16) -> [u8; 6]
 }
 
 fn rate_bytes(units: u32) -> [u8; 3]
-    ensures { λ r. ⌜ r ≡ bytesOf 3 (joined (rateTable units)) ⌝ }
+    ensures { λ r. ⌜ r ≡ esRateBytes units ⌝ }
 {
     let n = 8388608 + units % 4194304 * 2 + 1;
     [

@@ -1,7 +1,7 @@
 use native.Mathlib.Omega.{arith}
 use mathlib.Core.Path.{ap}
 use Rattle.writer.proofs.Laws.{field-none, field-there, two-bytes}
-use Rattle.writer.specs.Packets.{crcTable}
+use Rattle.contents.specs.Layout.{crcTable}
 use Rattle.writer.specs.Unit.{crcField}
 use borrow.Author.Needs.{needs}
 use Rattle.writer.proofs.put_crc.Statement.{statement}

@@ -1,6 +1,6 @@
 use mathlib.Core.Path.{ap}
 use Rattle.writer.proofs.Laws.{field-none, field-there}
-use Rattle.writer.specs.Packets.{rateTable}
+use Rattle.contents.specs.Layout.{rateTable}
 use Rattle.writer.specs.Unit.{rateField}
 use borrow.Author.Needs.{needs}
 use Rattle.writer.proofs.put_rate.Statement.{statement}

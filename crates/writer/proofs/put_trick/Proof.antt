@@ -1,7 +1,7 @@
 use native.Mathlib.Omega.{arith}
 use mathlib.Core.Path.{ap}
 use Rattle.writer.proofs.Laws.{field-none, field-there, one-byte}
-use Rattle.writer.specs.Packets.{trickTable}
+use Rattle.contents.specs.Layout.{trickTable}
 use Rattle.writer.specs.Unit.{byteField}
 use borrow.Author.Needs.{needs}
 use Rattle.writer.proofs.put_trick.Statement.{statement}
