@@ -301,7 +301,7 @@ uint32_t cmv_log_entry_at(const uint8_t *log, size_t log_len, size_t at, uint64_
 /* ---- The writer. A unit's fields come as numbers. A flag is 0 for no and any other number for yes; where a field's flag is 0, its
    value is not looked at. Times are 0 for none, 1 for a PTS alone, any other number for both. */
 
-/* writer::write: on 0 the number of packets is told. */
+/* writer::write: on 0 the number of packets is reported. */
 uint32_t cmv_write(uint16_t pid, uint8_t counter, uint8_t id, uint8_t bounded, uint8_t priority, uint8_t alignment, uint8_t copyright,
     uint8_t original, uint8_t times, uint64_t pts, uint64_t dts, uint8_t escr_there, uint64_t escr_base, uint16_t escr_extension,
     uint8_t rate_there, uint32_t rate, uint8_t trick_there, uint8_t trick, uint8_t copy_there, uint8_t copy, uint8_t crc_there,

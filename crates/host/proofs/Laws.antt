@@ -1,4 +1,4 @@
--- How an answer comes to be told.
+-- How an answer comes to be reported.
 -- Assumes nothing.
 use mathlib.Core.Path.{_≡_, refl, sym, ap, ap₂, _∙_}
 use mathlib.Core.Bool.{Bool, true, false}
@@ -24,21 +24,21 @@ use Rattle.host.specs.Clocks.{samePair, sameAnswer, followsAnswer, scram
 use Rattle.host.specs.Stamps.{wrapAnswer}
 use Rattle.host.specs.Reports.{Reports, word, filled, outs}
 
-pub told : {a : Answer} {w : ℕ} {lent left : List ℕ} → (w ≡ word a) × (left ≡ outs a lent) → Reports a w lent left
-told h = record { number = h .0; numbers = h .1 }
+pub reports : {a : Answer} {w : ℕ} {lent left : List ℕ} → (w ≡ word a) × (left ≡ outs a lent) → Reports a w lent left
+reports h = record { number = h .0; numbers = h .1 }
 
--- what tells an answer tells one that is equal to it
-pub told-as : {a b : Answer} {w : ℕ} {lent left : List ℕ} → a ≡ b → Reports b w lent left → Reports a w lent left
-told-as e t = rw e t
+-- what reports an answer reports one that is equal to it
+pub reports-as : {a b : Answer} {w : ℕ} {lent left : List ℕ} → a ≡ b → Reports b w lent left → Reports a w lent left
+reports-as e t = rw e t
 
--- the answer that a function ensures is told where that of the case is
-pub told-of : {R : Type 0} {r k : R} {a : Answer} {w : ℕ} {lent left : List ℕ} (given : R → Answer) → r ≡ k → given r ≡ a → Reports (given k) w lent left → Reports a w lent left
-told-of given f e t = rw (← e, f) t
+-- the answer that a function ensures is reported where that of the case is
+pub reports-of : {R : Type 0} {r k : R} {a : Answer} {w : ℕ} {lent left : List ℕ} (given : R → Answer) → r ≡ k → given r ≡ a → Reports (given k) w lent left → Reports a w lent left
+reports-of given f e t = rw (← e, f) t
 
 -- a truth value, of two things that were both made of numbers
-both-told : {p q : Answer} (vs ws : List ℕ) (l : ℕ) (b t : Bool) → answer 0 vs ≡ p → answer 0 ws ≡ q → b ≡ t
+both-reports : {p q : Answer} (vs ws : List ℕ) (l : ℕ) (b t : Bool) → answer 0 vs ≡ p → answer 0 ws ≡ q → b ≡ t
     → Reports (andThen p (andThen q (answer 0 (truth t ∷ [])))) 0 (l ∷ []) (boolByte b ∷ [])
-both-told vs ws l b t p q e = rw (← p, ← q) (told (refl, ap (λ (n : ℕ). n ∷ []) (ap truth e)))
+both-reports vs ws l b t p q e = rw (← p, ← q) (reports (refl, ap (λ (n : ℕ). n ∷ []) (ap truth e)))
 
 -- ---- answers that stand behind a first one
 
@@ -54,8 +54,8 @@ word-done a = go (eqb (a .number) 0) refl
 word-refused : (a : Answer) → (word a ≡ 0 → ⊥) → a .number ≡ 0 → ⊥
 word-refused a h z = h (simp (eq-eqb (a .number) 0 z))
 
-pub told-done : {a : Answer} {w : ℕ} {lent left : List ℕ} → Reports a w lent left → w ≡ 0 → a .number ≡ 0
-told-done {a} t h = word-done a (sym (t .number) ∙ h)
+pub reports-done : {a : Answer} {w : ℕ} {lent left : List ℕ} → Reports a w lent left → w ≡ 0 → a .number ≡ 0
+reports-done {a} t h = word-done a (sym (t .number) ∙ h)
 
 -- as many values as numbers are lent fill them all
 filled-all : (lent vs : List ℕ) → length lent ≡ length vs → filled lent vs ≡ vs
@@ -64,23 +64,23 @@ filled-all [] (v ∷ vs) h = absurd (omega arith)
 filled-all (x ∷ xs) [] h = absurd (omega arith)
 filled-all (x ∷ xs) (v ∷ vs) h = ap (λ (t : List ℕ). v ∷ t) (filled-all xs vs (omega arith))
 
--- where the first is refused it is told, whatever numbers are lent; else all that are lent are filled
+-- where the first is refused it is reported, whatever numbers are lent; else all that are lent are filled
 module _ {a : Answer} {w : ℕ} (lent : List ℕ) (t : Reports a w [] []) where
-  pub told-first : (b : Answer) → (w ≡ 0 → ⊥) → Reports (andThen a b) w lent lent
-  told-first b h =
+  pub reports-first : (b : Answer) → (w ≡ 0 → ⊥) → Reports (andThen a b) w lent lent
+  reports-first b h =
       let e : eqb (a .number) 0 ≡ false = ne-eqb (a .number) 0 (word-refused a (λ z. h (t .number ∙ z))) in
-      rw e (told (t .number, simp e))
+      rw e (reports (t .number, simp e))
 
-  pub told-whole : {left vs : List ℕ} → w ≡ 0 → left ≡ vs → length lent ≡ length left → Reports (andThen a (answer 0 vs)) 0 lent left
-  told-whole {left} {vs} h e l =
-      rw (eq-eqb (a .number) 0 (told-done t h)) (told (refl, e ∙ sym (filled-all lent vs (l ∙ ap length e))))
+  pub reports-whole : {left vs : List ℕ} → w ≡ 0 → left ≡ vs → length lent ≡ length left → Reports (andThen a (answer 0 vs)) 0 lent left
+  reports-whole {left} {vs} h e l =
+      rw (eq-eqb (a .number) 0 (reports-done t h)) (reports (refl, e ∙ sym (filled-all lent vs (l ∙ ap length e))))
 
 -- ---- timestamps
 
-pub wrap-told : (v s x y l : ℕ) (b : Bool) → answer 0 (x ∷ []) ≡ makeStamp v → answer 0 (y ∷ []) ≡ makeStamp s → b ≡ likelyWrapped x y
+pub wrap-reports : (v s x y l : ℕ) (b : Bool) → answer 0 (x ∷ []) ≡ makeStamp v → answer 0 (y ∷ []) ≡ makeStamp s → b ≡ likelyWrapped x y
     → Reports (wrapAnswer v s) 0 (l ∷ []) (boolByte b ∷ [])
-wrap-told v s x y l b p q e =
-    both-told (x ∷ []) (y ∷ []) l b (likelyWrapped v s) p q (rw (made-value v x p, made-value s y q) at e)
+wrap-reports v s x y l b p q e =
+    both-reports (x ∷ []) (y ∷ []) l b (likelyWrapped v s) p q (rw (made-value v x p, made-value s y q) at e)
 
 -- ---- clock references, counters and the fourth byte
 
@@ -94,16 +94,16 @@ pair-same b e b′ e′ =
     go true h k = ap₂ clock (eqb-true b b′ h) (eqb-true e e′ k)
     go false h k = let z : _≡_ {A = ℕ} 0 1 = ap truth k in absurd (omega arith)
 
-pub same-told : (b e b′ e′ l : ℕ) (c d : ClockRef) (s : Bool) → answer 0 (clockValues c) ≡ makeClock b e → answer 0 (clockValues d) ≡ makeClock b′ e′
+pub same-reports : (b e b′ e′ l : ℕ) (c d : ClockRef) (s : Bool) → answer 0 (clockValues c) ≡ makeClock b e → answer 0 (clockValues d) ≡ makeClock b′ e′
     → (s ≡ true) ↔ (c ≡ d) → Reports (sameAnswer b e b′ e′) 0 (l ∷ []) (boolByte s ∷ [])
-same-told b e b′ e′ l c d s p q h =
-    both-told (clockValues c) (clockValues d) l s (samePair b e b′ e′) p q
+same-reports b e b′ e′ l c d s p q h =
+    both-reports (clockValues c) (clockValues d) l s (samePair b e b′ e′) p q
     (one-truth (clock b e ≡ clock b′ e′) s (samePair b e b′ e′) (rw (clock-made b e c p, clock-made b′ e′ d q) at h) (pair-same b e b′ e′))
 
-pub follows-told : (a b x y l : ℕ) (f : Bool) → answer 0 (x ∷ []) ≡ makeCounter a → answer 0 (y ∷ []) ≡ makeCounter b → f ≡ follows x y
+pub follows-reports : (a b x y l : ℕ) (f : Bool) → answer 0 (x ∷ []) ≡ makeCounter a → answer 0 (y ∷ []) ≡ makeCounter b → f ≡ follows x y
     → Reports (followsAnswer a b) 0 (l ∷ []) (boolByte f ∷ [])
-follows-told a b x y l f p q h =
-    both-told (x ∷ []) (y ∷ []) l f (follows a b) p q (rw (counter-made a x p, counter-made b y q) at h)
+follows-reports a b x y l f p q h =
+    both-reports (x ∷ []) (y ∷ []) l f (follows a b) p q (rw (counter-made a x p, counter-made b y q) at h)
 
 -- the number of a scheme, 0 where there is none: the value after the kind
 scheme-is : (b : ℕ) → getD (readScheme b .values) 1 0 ≡ scrambling b
@@ -114,9 +114,9 @@ scheme-is b = go (scrambling b) (eqb (scrambling b) 0) refl
     go n true e = sym (eqb-true n 0 e)
     go n false e = refl
 
-pub scrambling-told : (b l m : ℕ) (t : Bool) (vs : List ℕ) → t ≡ isScrambled b → answer 0 vs ≡ readScheme b
+pub scrambling-reports : (b l m : ℕ) (t : Bool) (vs : List ℕ) → t ≡ isScrambled b → answer 0 vs ≡ readScheme b
     → Reports (scramblingAnswer b) 0 (l ∷ m ∷ []) (boolByte t ∷ getD vs 1 0 ∷ [])
-scrambling-told b l m t vs h k = told (refl, rw (h, ap (λ (a : Answer). getD (a .values) 1 0) k ∙ scheme-is b))
+scrambling-reports b l m t vs h k = reports (refl, rw (h, ap (λ (a : Answer). getD (a .values) 1 0) k ∙ scheme-is b))
 
 -- ---- packets
 
@@ -128,6 +128,6 @@ four-through : (f : ℕ → Answer) (xs : List ℕ) → through f (readByteFour 
 unfolding notPacket
 four-through f xs = unless-map (notPacket xs) (through f) (λ n h. rw (ne-eqb n 0 (omega arith))) (omega arith) _
 
-pub four-told : {R : Type 0} {r k : R} {w : ℕ} {lent left : List ℕ} (xs : List ℕ) (f : ℕ → Answer) (given : R → Answer) → r ≡ k → given r ≡ readByteFour xs
+pub four-reports : {R : Type 0} {r k : R} {w : ℕ} {lent left : List ℕ} (xs : List ℕ) (f : ℕ → Answer) (given : R → Answer) → r ≡ k → given r ≡ readByteFour xs
     → Reports (through f (given k)) w lent left → Reports (unless (notPacket xs) (f (getD xs 3 0))) w lent left
-four-told xs f given e p t = told-of (λ k. through f (given k)) e (ap (through f) p ∙ four-through f xs) t
+four-reports xs f given e p t = reports-of (λ k. through f (given k)) e (ap (through f) p ∙ four-through f xs) t

@@ -1,4 +1,4 @@
--- What an entry tells its host: one word, and the out numbers.
+-- What an entry reports to its host: one word, and the out numbers.
 use mathlib.Core.Path.{_≡_}
 use mathlib.Core.List.{List, [], _∷_}
 use Prim.Native.Nat.{ℕ, _+_, _*_}
@@ -20,7 +20,7 @@ filled (x ∷ xs) vs = getD vs 0 0 ∷ filled xs (drop 1 vs)
 abbrev pub outs : Answer → List ℕ → List ℕ
 outs a lent = pick (eqb (a .number) done) (filled lent (a .values)) lent
 
--- the answer a is told by the word w and the out numbers, lent and left
+-- the answer a is reported by the word w and the out numbers, lent and left
 pub record Reports (a : Answer) (w : ℕ) (lent left : List ℕ) : Type 0 where
   pub number : w ≡ word a
   pub numbers : left ≡ outs a lent

@@ -22,7 +22,7 @@ use control::PidMade;
 use control::Scheme;
 use control::TransportScramblingControl;
 
-pub fn tell_clock(c: ClockRef, base: &mut u64, extension: &mut u64) -> u32
+pub fn report_clock(c: ClockRef, base: &mut u64, extension: &mut u64) -> u32
     ensures { λ w. ⌜ Reports (answer done (clockValues c)) w (now (base .entry) ∷ now (extension .entry) ∷ [])
         (now (base .exit) ∷ now (extension .exit) ∷ []) ⌝ }
 {
@@ -38,7 +38,7 @@ pub extern "C" fn cmv_clock_ref_from_slice(buf: &[u8], base: &mut u64, extension
         (now (base .exit) ∷ now (extension .exit) ∷ []) ⌝ }
 {
     match ClockRef::from_slice(buf) {
-        ClockRead::Done(c) => tell_clock(c, base, extension),
+        ClockRead::Done(c) => report_clock(c, base, extension),
         ClockRead::WrongLength => WRONG_LENGTH,
     }
 }
@@ -55,7 +55,7 @@ pub extern "C" fn cmv_clock_ref_from_parts(
         (now (base .exit) ∷ now (extension .exit) ∷ []) ⌝ }
 {
     match ClockRef::from_parts(b, e) {
-        ClockMade::Done(c) => tell_clock(c, base, extension),
+        ClockMade::Done(c) => report_clock(c, base, extension),
         ClockMade::OutOfRange => OUT_OF_RANGE,
     }
 }
@@ -127,7 +127,7 @@ pub extern "C" fn cmv_continuity_counter_follows(count: u8, other: u8, follows: 
     DONE
 }
 
-fn tell_pid(r: PidMade, value: &mut u64) -> u32
+fn report_pid(r: PidMade, value: &mut u64) -> u32
     ensures { λ w. ⌜ Reports (givenPid r) w (now (value .entry) ∷ []) (now (value .exit) ∷ []) ⌝ }
 {
     match r {
@@ -144,7 +144,7 @@ fn tell_pid(r: PidMade, value: &mut u64) -> u32
 pub extern "C" fn cmv_pid_new(pid: u16, value: &mut u64) -> u32
     ensures { λ w. ⌜ Reports (makePid pid) w (now (value .entry) ∷ []) (now (value .exit) ∷ []) ⌝ }
 {
-    tell_pid(Pid::new(pid), value)
+    report_pid(Pid::new(pid), value)
 }
 
 // Pid::try_from, and its number
@@ -152,10 +152,10 @@ pub extern "C" fn cmv_pid_new(pid: u16, value: &mut u64) -> u32
 pub extern "C" fn cmv_pid_try_from(pid: u16, value: &mut u64) -> u32
     ensures { λ w. ⌜ Reports (makePid pid) w (now (value .entry) ∷ []) (now (value .exit) ∷ []) ⌝ }
 {
-    tell_pid(Pid::try_from(pid), value)
+    report_pid(Pid::try_from(pid), value)
 }
 
-pub fn tell_control(c: AdaptationControl, field: &mut u64, payload: &mut u64) -> u32
+pub fn report_control(c: AdaptationControl, field: &mut u64, payload: &mut u64) -> u32
     ensures { λ w. ⌜ Reports (controlAnswer (c .0)) w (now (field .entry) ∷ now (payload .entry) ∷ [])
         (now (field .exit) ∷ now (payload .exit) ∷ []) ⌝ }
 {
@@ -170,10 +170,14 @@ pub extern "C" fn cmv_adaptation_control(byte: u8, field: &mut u64, payload: &mu
     ensures { λ w. ⌜ Reports (controlAnswer byte) w (now (field .entry) ∷ now (payload .entry) ∷ [])
         (now (field .exit) ∷ now (payload .exit) ∷ []) ⌝ }
 {
-    tell_control(AdaptationControl::new(byte), field, payload)
+    report_control(AdaptationControl::new(byte), field, payload)
 }
 
-pub fn tell_scrambling(c: TransportScramblingControl, scrambled: &mut u64, scheme: &mut u64) -> u32
+pub fn report_scrambling(
+    c: TransportScramblingControl,
+    scrambled: &mut u64,
+    scheme: &mut u64,
+) -> u32
     ensures { λ w. ⌜ Reports (scramblingAnswer (c .0)) w (now (scrambled .entry) ∷ now (scheme .entry) ∷ [])
         (now (scrambled .exit) ∷ now (scheme .exit) ∷ []) ⌝ }
 {
@@ -195,7 +199,7 @@ pub extern "C" fn cmv_transport_scrambling_control(
     ensures { λ w. ⌜ Reports (scramblingAnswer byte) w (now (scrambled .entry) ∷ now (scheme .entry) ∷ [])
         (now (scrambled .exit) ∷ now (scheme .exit) ∷ []) ⌝ }
 {
-    tell_scrambling(
+    report_scrambling(
         TransportScramblingControl::from_byte_four(byte),
         scrambled,
         scheme,

@@ -4,7 +4,7 @@ ghost use Rattle.adaptation.specs.Adaptation.{givenFlag, givenClock, givenPart,
 ghost use Rattle.adaptation.specs.Adaptation.{readPrivateData, readExtension};
 ghost use Rattle.adaptation.specs.Extension.{readLtw, readRate, readSplice};
 ghost use Rattle.host.specs.Reports.{Reports};
-use crate::clocks::tell_clock;
+use crate::clocks::report_clock;
 use crate::numbers::DONE;
 use crate::numbers::FIELD_NOT_PRESENT;
 use crate::numbers::MARKER_BIT_NOT_SET;
@@ -18,7 +18,7 @@ use adaptation::extension::LtwRead;
 use adaptation::extension::RateRead;
 use adaptation::extension::SpliceRead;
 
-fn tell_flag(r: FlagRead, value: &mut u64) -> u32
+fn report_flag(r: FlagRead, value: &mut u64) -> u32
     ensures { λ w. ⌜ Reports (givenFlag r) w (now (value .entry) ∷ []) (now (value .exit) ∷ []) ⌝ }
 {
     match r {
@@ -35,7 +35,7 @@ fn tell_flag(r: FlagRead, value: &mut u64) -> u32
 pub extern "C" fn cmv_adaptation_field_discontinuity_indicator(buf: &[u8], value: &mut u64) -> u32
     ensures { λ w. ⌜ Reports (readFlag 0 (now (buf .entry))) w (now (value .entry) ∷ []) (now (value .exit) ∷ []) ⌝ }
 {
-    tell_flag(adaptation::discontinuity_indicator(buf), value)
+    report_flag(adaptation::discontinuity_indicator(buf), value)
 }
 
 // adaptation::random_access_indicator
@@ -43,7 +43,7 @@ pub extern "C" fn cmv_adaptation_field_discontinuity_indicator(buf: &[u8], value
 pub extern "C" fn cmv_adaptation_field_random_access_indicator(buf: &[u8], value: &mut u64) -> u32
     ensures { λ w. ⌜ Reports (readFlag 1 (now (buf .entry))) w (now (value .entry) ∷ []) (now (value .exit) ∷ []) ⌝ }
 {
-    tell_flag(adaptation::random_access_indicator(buf), value)
+    report_flag(adaptation::random_access_indicator(buf), value)
 }
 
 // adaptation::elementary_stream_priority_indicator
@@ -54,15 +54,15 @@ pub extern "C" fn cmv_adaptation_field_elementary_stream_priority_indicator(
 ) -> u32
     ensures { λ w. ⌜ Reports (readFlag 2 (now (buf .entry))) w (now (value .entry) ∷ []) (now (value .exit) ∷ []) ⌝ }
 {
-    tell_flag(adaptation::elementary_stream_priority_indicator(buf), value)
+    report_flag(adaptation::elementary_stream_priority_indicator(buf), value)
 }
 
-fn tell_clock_read(r: ClockRead, base: &mut u64, extension: &mut u64) -> u32
+fn report_clock_read(r: ClockRead, base: &mut u64, extension: &mut u64) -> u32
     ensures { λ w. ⌜ Reports (givenClock r) w (now (base .entry) ∷ now (extension .entry) ∷ [])
         (now (base .exit) ∷ now (extension .exit) ∷ []) ⌝ }
 {
     match r {
-        ClockRead::Done(c) => tell_clock(c, base, extension),
+        ClockRead::Done(c) => report_clock(c, base, extension),
         ClockRead::WrongLength => WRONG_LENGTH,
         ClockRead::FieldNotPresent => FIELD_NOT_PRESENT,
         ClockRead::NotEnoughData => NOT_ENOUGH_DATA,
@@ -75,7 +75,7 @@ pub extern "C" fn cmv_adaptation_field_pcr(buf: &[u8], base: &mut u64, extension
     ensures { λ w. ⌜ Reports (readPcr (now (buf .entry))) w (now (base .entry) ∷ now (extension .entry) ∷ [])
         (now (base .exit) ∷ now (extension .exit) ∷ []) ⌝ }
 {
-    tell_clock_read(adaptation::pcr(buf), base, extension)
+    report_clock_read(adaptation::pcr(buf), base, extension)
 }
 
 // adaptation::opcr
@@ -84,7 +84,7 @@ pub extern "C" fn cmv_adaptation_field_opcr(buf: &[u8], base: &mut u64, extensio
     ensures { λ w. ⌜ Reports (readOpcr (now (buf .entry))) w (now (base .entry) ∷ now (extension .entry) ∷ [])
         (now (base .exit) ∷ now (extension .exit) ∷ []) ⌝ }
 {
-    tell_clock_read(adaptation::opcr(buf), base, extension)
+    report_clock_read(adaptation::opcr(buf), base, extension)
 }
 
 // adaptation::splice_countdown
@@ -103,7 +103,7 @@ pub extern "C" fn cmv_adaptation_field_splice_countdown(buf: &[u8], value: &mut 
     }
 }
 
-fn tell_part(r: PartRead, place: &mut u64, length: &mut u64) -> u32
+fn report_part(r: PartRead, place: &mut u64, length: &mut u64) -> u32
     ensures { λ w. ⌜ Reports (givenPart r) w (now (place .entry) ∷ now (length .entry) ∷ []) (now (place .exit) ∷ now (length .exit) ∷ []) ⌝ }
 {
     match r {
@@ -131,7 +131,7 @@ pub extern "C" fn cmv_adaptation_field_transport_private_data(
     ensures { λ w. ⌜ Reports (readPrivateData (now (buf .entry))) w (now (place .entry) ∷ now (length .entry) ∷ [])
         (now (place .exit) ∷ now (length .exit) ∷ []) ⌝ }
 {
-    tell_part(adaptation::transport_private_data_at(buf), place, length)
+    report_part(adaptation::transport_private_data_at(buf), place, length)
 }
 
 // adaptation::adaptation_field_extension_at: where what adaptation_field_extension gives lies
@@ -144,7 +144,7 @@ pub extern "C" fn cmv_adaptation_field_extension(
     ensures { λ w. ⌜ Reports (readExtension (now (buf .entry))) w (now (place .entry) ∷ now (length .entry) ∷ [])
         (now (place .exit) ∷ now (length .exit) ∷ []) ⌝ }
 {
-    tell_part(
+    report_part(
         adaptation::adaptation_field_extension_at(buf),
         place,
         length,

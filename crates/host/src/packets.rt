@@ -7,8 +7,8 @@ ghost use Rattle.packet.specs.Packet.{givenFlag, givenPart, tried, readFlag, er
 ghost use Rattle.packet.specs.Packet.{readAdaptation, readPayload};
 ghost use Rattle.host.specs.Reports.{Reports};
 ghost use Rattle.host.specs.Packets.{readScrambling, readControl};
-use crate::clocks::tell_control;
-use crate::clocks::tell_scrambling;
+use crate::clocks::report_control;
+use crate::clocks::report_scrambling;
 use crate::numbers::DONE;
 use crate::numbers::FIELD_NOT_PRESENT;
 use crate::numbers::NO_SYNC;
@@ -42,7 +42,7 @@ pub extern "C" fn cmv_packet_try_new(buf: &[u8]) -> u32
     }
 }
 
-fn tell_flag(r: FlagRead, value: &mut u64) -> u32
+fn report_flag(r: FlagRead, value: &mut u64) -> u32
     ensures { λ w. ⌜ Reports (givenFlag r) w (now (value .entry) ∷ []) (now (value .exit) ∷ []) ⌝ }
 {
     match r {
@@ -60,7 +60,7 @@ fn tell_flag(r: FlagRead, value: &mut u64) -> u32
 pub extern "C" fn cmv_packet_transport_error_indicator(buf: &[u8], value: &mut u64) -> u32
     ensures { λ w. ⌜ Reports (readFlag errorBit (now (buf .entry))) w (now (value .entry) ∷ []) (now (value .exit) ∷ []) ⌝ }
 {
-    tell_flag(packet::transport_error_indicator(buf), value)
+    report_flag(packet::transport_error_indicator(buf), value)
 }
 
 // packet::payload_unit_start_indicator
@@ -68,7 +68,7 @@ pub extern "C" fn cmv_packet_transport_error_indicator(buf: &[u8], value: &mut u
 pub extern "C" fn cmv_packet_payload_unit_start_indicator(buf: &[u8], value: &mut u64) -> u32
     ensures { λ w. ⌜ Reports (readFlag startBit (now (buf .entry))) w (now (value .entry) ∷ []) (now (value .exit) ∷ []) ⌝ }
 {
-    tell_flag(packet::payload_unit_start_indicator(buf), value)
+    report_flag(packet::payload_unit_start_indicator(buf), value)
 }
 
 // packet::transport_priority
@@ -76,7 +76,7 @@ pub extern "C" fn cmv_packet_payload_unit_start_indicator(buf: &[u8], value: &mu
 pub extern "C" fn cmv_packet_transport_priority(buf: &[u8], value: &mut u64) -> u32
     ensures { λ w. ⌜ Reports (readFlag priorityBit (now (buf .entry))) w (now (value .entry) ∷ []) (now (value .exit) ∷ []) ⌝ }
 {
-    tell_flag(packet::transport_priority(buf), value)
+    report_flag(packet::transport_priority(buf), value)
 }
 
 // packet::pid
@@ -105,7 +105,7 @@ pub extern "C" fn cmv_packet_transport_scrambling_control(
         (now (scrambled .exit) ∷ now (scheme .exit) ∷ []) ⌝ }
 {
     match packet::transport_scrambling_control(buf) {
-        ScramblingRead::Done(s) => tell_scrambling(s, scrambled, scheme),
+        ScramblingRead::Done(s) => report_scrambling(s, scrambled, scheme),
         ScramblingRead::WrongLength => WRONG_LENGTH,
         ScramblingRead::NoSync => NO_SYNC,
     }
@@ -122,7 +122,7 @@ pub extern "C" fn cmv_packet_adaptation_control(
         (now (field .exit) ∷ now (payload .exit) ∷ []) ⌝ }
 {
     match packet::adaptation_control(buf) {
-        ControlRead::Done(a) => tell_control(a, field, payload),
+        ControlRead::Done(a) => report_control(a, field, payload),
         ControlRead::WrongLength => WRONG_LENGTH,
         ControlRead::NoSync => NO_SYNC,
     }
@@ -143,7 +143,7 @@ pub extern "C" fn cmv_packet_continuity_counter(buf: &[u8], value: &mut u64) -> 
     }
 }
 
-fn tell_part(r: PartRead, place: &mut u64, length: &mut u64) -> u32
+fn report_part(r: PartRead, place: &mut u64, length: &mut u64) -> u32
     ensures { λ w. ⌜ Reports (givenPart r) w (now (place .entry) ∷ now (length .entry) ∷ []) (now (place .exit) ∷ now (length .exit) ∷ []) ⌝ }
 {
     match r {
@@ -167,7 +167,7 @@ pub extern "C" fn cmv_packet_adaptation_field(buf: &[u8], place: &mut u64, lengt
     ensures { λ w. ⌜ Reports (readAdaptation (now (buf .entry))) w (now (place .entry) ∷ now (length .entry) ∷ [])
         (now (place .exit) ∷ now (length .exit) ∷ []) ⌝ }
 {
-    tell_part(packet::adaptation_field_at(buf), place, length)
+    report_part(packet::adaptation_field_at(buf), place, length)
 }
 
 // packet::payload_at: where what payload gives lies
@@ -176,7 +176,7 @@ pub extern "C" fn cmv_packet_payload(buf: &[u8], place: &mut u64, length: &mut u
     ensures { λ w. ⌜ Reports (readPayload (now (buf .entry))) w (now (place .entry) ∷ now (length .entry) ∷ [])
         (now (place .exit) ∷ now (length .exit) ∷ []) ⌝ }
 {
-    tell_part(packet::payload_at(buf), place, length)
+    report_part(packet::payload_at(buf), place, length)
 }
 
 // packet::SYNC_BYTE and packet::SIZE

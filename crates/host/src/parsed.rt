@@ -10,7 +10,7 @@ ghost use Rattle.contents.specs.Trick.{readTrick, readRawTrick};
 ghost use Rattle.contents.specs.Given.{refusal, givenByte, alignment, statusBit, originality, givenStamp, truncation, trickValues};
 ghost use Rattle.contents.specs.Given.{givenPart};
 ghost use Rattle.host.specs.Reports.{Reports, filled};
-use crate::clocks::tell_clock;
+use crate::clocks::report_clock;
 use crate::numbers::BAD_CHECK_BITS;
 use crate::numbers::DONE;
 use crate::numbers::FIELD_NOT_PRESENT;
@@ -45,7 +45,7 @@ use contents::Refusal;
 use contents::StampRead;
 use contents::TrickRead;
 
-// A refusal is told whatever numbers are lent.
+// A refusal is reported whatever numbers are lent.
 fn refused(r: Refusal) -> u32
     ensures { λ w. ⌜ ((lent : List ℕ) → Reports (refusal r) w lent lent) ⌝ }
 {
@@ -68,7 +68,7 @@ pub extern "C" fn cmv_pes_contents_from_bytes(buf: &[u8]) -> u32
     }
 }
 
-fn tell_byte(r: ByteRead, value: &mut u64) -> u32
+fn report_byte(r: ByteRead, value: &mut u64) -> u32
     ensures { λ w. ⌜ Reports (givenByte r) w (now (value .entry) ∷ []) (now (value .exit) ∷ []) ⌝ }
 {
     match r {
@@ -85,7 +85,7 @@ fn tell_byte(r: ByteRead, value: &mut u64) -> u32
 pub extern "C" fn cmv_pes_contents_pes_priority(buf: &[u8], value: &mut u64) -> u32
     ensures { λ w. ⌜ Reports (readFixed priorityBit 1 (now (buf .entry))) w (now (value .entry) ∷ []) (now (value .exit) ∷ []) ⌝ }
 {
-    tell_byte(contents::pes_priority(buf), value)
+    report_byte(contents::pes_priority(buf), value)
 }
 
 // contents::pes_scrambling_control
@@ -93,7 +93,7 @@ pub extern "C" fn cmv_pes_contents_pes_priority(buf: &[u8], value: &mut u64) -> 
 pub extern "C" fn cmv_pes_contents_pes_scrambling_control(buf: &[u8], value: &mut u64) -> u32
     ensures { λ w. ⌜ Reports (readFixed scramblingBit 2 (now (buf .entry))) w (now (value .entry) ∷ []) (now (value .exit) ∷ []) ⌝ }
 {
-    tell_byte(contents::pes_scrambling_control(buf), value)
+    report_byte(contents::pes_scrambling_control(buf), value)
 }
 
 // contents::flags
@@ -101,7 +101,7 @@ pub extern "C" fn cmv_pes_contents_pes_scrambling_control(buf: &[u8], value: &mu
 pub extern "C" fn cmv_pes_contents_flags(buf: &[u8], value: &mut u64) -> u32
     ensures { λ w. ⌜ Reports (readFixed flagsBit 8 (now (buf .entry))) w (now (value .entry) ∷ []) (now (value .exit) ∷ []) ⌝ }
 {
-    tell_byte(contents::flags(buf), value)
+    report_byte(contents::flags(buf), value)
 }
 
 // contents::pes_header_data_len
@@ -109,7 +109,7 @@ pub extern "C" fn cmv_pes_contents_flags(buf: &[u8], value: &mut u64) -> u32
 pub extern "C" fn cmv_pes_contents_pes_header_data_len(buf: &[u8], value: &mut u64) -> u32
     ensures { λ w. ⌜ Reports (readFixed dataLengthBit 8 (now (buf .entry))) w (now (value .entry) ∷ []) (now (value .exit) ∷ []) ⌝ }
 {
-    tell_byte(contents::pes_header_data_len(buf), value)
+    report_byte(contents::pes_header_data_len(buf), value)
 }
 
 fn aligned(x: DataAlignment) -> u64
@@ -241,7 +241,7 @@ pub extern "C" fn cmv_pes_contents_escr(buf: &[u8], base: &mut u64, extension: &
         (now (base .exit) ∷ now (extension .exit) ∷ []) ⌝ }
 {
     match contents::escr(buf) {
-        EscrRead::Done(k) => tell_clock(k, base, extension),
+        EscrRead::Done(k) => report_clock(k, base, extension),
         EscrRead::FieldNotPresent => FIELD_NOT_PRESENT,
         EscrRead::Refused(r) => refused(r),
     }
@@ -389,7 +389,7 @@ pub extern "C" fn cmv_pes_contents_previous_pes_packet_crc(buf: &[u8], value: &m
     }
 }
 
-fn tell_part(r: PartRead, place: &mut u64, length: &mut u64) -> u32
+fn report_part(r: PartRead, place: &mut u64, length: &mut u64) -> u32
     ensures { λ w. ⌜ Reports (givenPart r) w (now (place .entry) ∷ now (length .entry) ∷ []) (now (place .exit) ∷ now (length .exit) ∷ []) ⌝ }
 {
     match r {
@@ -416,7 +416,7 @@ pub extern "C" fn cmv_pes_contents_pes_extension(
     ensures { λ w. ⌜ Reports (readExtension (now (buf .entry))) w (now (place .entry) ∷ now (length .entry) ∷ [])
         (now (place .exit) ∷ now (length .exit) ∷ []) ⌝ }
 {
-    tell_part(contents::pes_extension_at(buf), place, length)
+    report_part(contents::pes_extension_at(buf), place, length)
 }
 
 // contents::payload_at: where what payload gives lies
@@ -425,7 +425,7 @@ pub extern "C" fn cmv_pes_contents_payload(buf: &[u8], place: &mut u64, length: 
     ensures { λ w. ⌜ Reports (readPayload (now (buf .entry))) w (now (place .entry) ∷ now (length .entry) ∷ [])
         (now (place .exit) ∷ now (length .exit) ∷ []) ⌝ }
 {
-    tell_part(contents::payload_at(buf), place, length)
+    report_part(contents::payload_at(buf), place, length)
 }
 
 // EsRate::new, and its number

@@ -15,7 +15,7 @@ use timestamp::Timestamp;
 use timestamp::TimestampMade;
 use timestamp::TimestampRead;
 
-fn tell(r: TimestampRead, value: &mut u64) -> u32
+fn report(r: TimestampRead, value: &mut u64) -> u32
     ensures { λ w. ⌜ Reports (given r) w (now (value .entry) ∷ []) (now (value .exit) ∷ []) ⌝ }
 {
     match r {
@@ -37,7 +37,7 @@ fn tell(r: TimestampRead, value: &mut u64) -> u32
 pub extern "C" fn cmv_timestamp_from_pts_bytes(buf: &[u8], value: &mut u64) -> u32
     ensures { λ w. ⌜ Reports (readPrefixed ptsPrefix (now (buf .entry))) w (now (value .entry) ∷ []) (now (value .exit) ∷ []) ⌝ }
 {
-    tell(Timestamp::from_pts_bytes(buf), value)
+    report(Timestamp::from_pts_bytes(buf), value)
 }
 
 // Timestamp::from_dts_bytes
@@ -45,7 +45,7 @@ pub extern "C" fn cmv_timestamp_from_pts_bytes(buf: &[u8], value: &mut u64) -> u
 pub extern "C" fn cmv_timestamp_from_dts_bytes(buf: &[u8], value: &mut u64) -> u32
     ensures { λ w. ⌜ Reports (readPrefixed dtsPrefix (now (buf .entry))) w (now (value .entry) ∷ []) (now (value .exit) ∷ []) ⌝ }
 {
-    tell(Timestamp::from_dts_bytes(buf), value)
+    report(Timestamp::from_dts_bytes(buf), value)
 }
 
 // Timestamp::from_bytes
@@ -53,7 +53,7 @@ pub extern "C" fn cmv_timestamp_from_dts_bytes(buf: &[u8], value: &mut u64) -> u
 pub extern "C" fn cmv_timestamp_from_bytes(buf: &[u8], value: &mut u64) -> u32
     ensures { λ w. ⌜ Reports (readStamp (now (buf .entry))) w (now (value .entry) ∷ []) (now (value .exit) ∷ []) ⌝ }
 {
-    tell(Timestamp::from_bytes(buf), value)
+    report(Timestamp::from_bytes(buf), value)
 }
 
 // Timestamp::from_u64, and its value

@@ -1,4 +1,4 @@
--- What the entries over a row tell, in each case.
+-- What the entries over a row report, in each case.
 -- Assumes nothing.
 use mathlib.Core.Path.{_≡_, refl, sym, ap, _∙_}
 use mathlib.Core.Bool.{Bool, true, false, not}
@@ -17,7 +17,7 @@ use Rattle.machine.proofs.Rows.{stray-number}
 use Rattle.machine.specs.Row.{machineOf, rowOf, stepBy, rowStep, rowStepOf, runBy, rowRun, rowRunOf}
 use Rattle.log.specs.declared.Event.{Event}
 use Rattle.host.specs.Reports.{Reports}
-use Rattle.host.proofs.Laws.{told, told-as}
+use Rattle.host.proofs.Laws.{reports, reports-as}
 use Rattle.gather.specs.declared.Lies.{Lies}
 use Rattle.gather.specs.declared.Gathering.{Gathering}
 use Rattle.gather.specs.declared.HeldRead.{HeldRead}
@@ -93,14 +93,14 @@ module _ (r : gather-row.RowRead) (xs p : List ℕ) (v : Event) (s : List ℕ) (
       pub gather-moves : (xs′ : List ℕ) → b ≡ true → xs′ ≡ store.rowOf (o .gathering) → store.rowGather n xs′ s′ ≡ store.rowGatherOf xs p v s
       gather-moves xs′ z q = at-each xs′ (simp (sym d ∙ z) q)
 
--- .. and told by its number alone
-strayed-told : (p : List ℕ) {lent : List ℕ} → Reports (answer (firstOf (notTaken p true [])) []) (firstOf (notTaken p true [])) lent lent
-strayed-told p {lent} = rw (stray-number p) (go (other (length p) 188) (other (getD p 0 0) 0x47))
+-- .. and reported by its number alone
+strayed-reports : (p : List ℕ) {lent : List ℕ} → Reports (answer (firstOf (notTaken p true [])) []) (firstOf (notTaken p true [])) lent lent
+strayed-reports p {lent} = rw (stray-number p) (go (other (length p) 188) (other (getD p 0 0) 0x47))
   where
     go : (a b : Bool) → let n : ℕ = pick a 1 (pick b 2 14) in Reports (answer n []) n lent lent
-    go true b = told (refl, refl)
-    go false true = told (refl, refl)
-    go false false = told (refl, refl)
+    go true b = reports (refl, refl)
+    go false true = reports (refl, refl)
+    go false false = reports (refl, refl)
 
 module _ (r : gather-row.RowRead) (xs p s : List ℕ) (of : r ≡ store.gatheringOf xs) where
   held-by : store.heldBy r p s ≡ store.rowHeld xs p s
@@ -111,21 +111,21 @@ module _ (r : gather-row.RowRead) (xs p s : List ℕ) (of : r ≡ store.gatherin
   held-strayed {w} e f =
       let q : store.rowHeld xs p s ≡ answer (firstOf (notTaken p true [])) []
       = sym (ap (λ (k : ℕ). answer k []) (judged-alike p) ∙ (ap (λ (t : gather-row.RowRead). store.heldBy t p s) (sym e) ∙ held-by)) in
-      rw f (told-as q (strayed-told p))
+      rw f (reports-as q (strayed-reports p))
 
   -- the answer of a state by what its bytes' reading gives
   module _ (g : Gathering) (e : r ≡ gather-row.RowRead.Is g) (h : HeldRead) (f : gather.givenHeld h ≡ gather.readOf g p s) where
-    pub held-told : (k : HeldRead) {w : ℕ} {lent left : List ℕ} → h ≡ k
+    pub held-reports : (k : HeldRead) {w : ℕ} {lent left : List ℕ} → h ≡ k
         → Reports (pick (eqb (gather.givenHeld k) 0) (answer 0 (store.partValues (g .lies) (g .count))) (answer (gather.givenHeld k) [])) w lent left
         → Reports (store.rowHeld xs p s) w lent left
-    held-told k q t =
-        told-as (sym (ap (λ (z : ℕ). pick (eqb z 0) (answer 0 (store.partValues (g .lies) (g .count))) (answer z [])) (ap gather.givenHeld (sym q) ∙ f)
+    held-reports k q t =
+        reports-as (sym (ap (λ (z : ℕ). pick (eqb z 0) (answer 0 (store.partValues (g .lies) (g .count))) (answer z [])) (ap gather.givenHeld (sym q) ∙ f)
         ∙ (ap (λ (t : gather-row.RowRead). store.heldBy t p s) (sym e) ∙ held-by))) t
 
     -- the bytes of a packet, and those of a store
     module _ (x y z : ℕ) (q : h ≡ HeldRead.Done) where
       pub held-in-packet : (a : ℕ) → g .lies ≡ Lies.Packet a → Reports (store.rowHeld xs p s) 0 (x ∷ y ∷ z ∷ []) (0 ∷ a ∷ g .count ∷ [])
-      held-in-packet a e = held-told HeldRead.Done q (told (refl, rw e))
+      held-in-packet a e = held-reports HeldRead.Done q (reports (refl, rw e))
 
       pub held-in-store : g .lies ≡ Lies.Store → Reports (store.rowHeld xs p s) 0 (x ∷ y ∷ z ∷ []) (1 ∷ 0 ∷ g .count ∷ [])
-      held-in-store e = held-told HeldRead.Done q (told (refl, rw e))
+      held-in-store e = held-reports HeldRead.Done q (reports (refl, rw e))

@@ -64,7 +64,7 @@ fn crc_of(there: u8, crc: u16) -> Crc
     Crc::Present(crc)
 }
 
-// writer::write: on 0 the number of packets is told.
+// writer::write: on 0 the number of packets is reported.
 #[no_mangle]
 pub extern "C" fn cmv_write(
     pid: u16,

@@ -8,4 +8,4 @@ cmv-adaptation-control-spec =
     (tie.spec
     (λ c κs. search needs)
     (λ c κs. search needs)
-    (λ c. rw (c .before .before .before .new .ensures) at (c .tell-control .ensures)))
+    (λ c. rw (c .before .before .before .new .ensures) at (c .report-control .ensures)))

@@ -1,4 +1,4 @@
-use Rattle.host.proofs.Laws.{told, same-told}
+use Rattle.host.proofs.Laws.{reports, same-reports}
 use mathlib.Core.Path.{refl, sym, ap, _∙_}
 use Rattle.control.specs.Clock.{givenMade}
 use borrow.Author.Needs.{needs}
@@ -10,11 +10,11 @@ returns-2 c =
     rw (
       sym (c .before .before .before .before .before .before .from-parts .ensures) ∙ ap givenMade (c .before .before .before .before .c .given .1),
       sym (c .before .before .from-parts2 .ensures) ∙ ap givenMade (c .enum-told2 .given .1),
-    ) (told (refl, refl))
+    ) (reports (refl, refl))
 
 returns-3 : tie.Need-returns-3
 returns-3 c =
-    same-told _ _ _ _ _ _ _ _
+    same-reports _ _ _ _ _ _ _ _
     (ap givenMade (sym (c .before .before .before .before .before .before .c .given .1)) ∙ c .before .before .before .before .before .before .before .before .from-parts .ensures)
     (ap givenMade (sym (c .before .before .d .given .1)) ∙ c .before .before .before .before .from-parts2 .ensures)
     (c .eq .ensures)
@@ -26,7 +26,7 @@ cmv-clock-ref-eq-spec =
     (λ c κs. search needs)
     (λ c. search needs)
     (λ c. search needs)
-    (λ c. rw (sym (c .before .before .from-parts .ensures) ∙ ap givenMade (c .enum-told .given .1)) (told (refl, refl)))
+    (λ c. rw (sym (c .before .before .from-parts .ensures) ∙ ap givenMade (c .enum-told .given .1)) (reports (refl, refl)))
     (λ c κs. search needs)
     (λ c. search needs)
     (λ c. search needs)

@@ -1,4 +1,4 @@
-use Rattle.host.proofs.Laws.{told, told-of}
+use Rattle.host.proofs.Laws.{reports, reports-of}
 use mathlib.Core.Path.{refl}
 use Rattle.control.specs.Clock.{givenRead}
 use borrow.Author.Needs.{needs}
@@ -13,5 +13,5 @@ cmv-clock-ref-from-slice-spec =
     (λ c. search needs)
     (λ c κs. search needs)
     (λ c. search needs)
-    (λ c. told-of givenRead (c .before .before .before .before .c .given .1) (c .before .before .before .before .before .before .from-slice .ensures) (c .tell-clock .ensures))
-    (λ c. told-of givenRead (c .enum-told .given .1) (c .before .before .from-slice .ensures) (told (refl, refl))))
+    (λ c. reports-of givenRead (c .before .before .before .before .c .given .1) (c .before .before .before .before .before .before .from-slice .ensures) (c .report-clock .ensures))
+    (λ c. reports-of givenRead (c .enum-told .given .1) (c .before .before .from-slice .ensures) (reports (refl, refl))))

@@ -1,4 +1,4 @@
-use Rattle.host.proofs.Laws.{told, follows-told}
+use Rattle.host.proofs.Laws.{reports, follows-reports}
 use mathlib.Core.Path.{refl, sym, ap, _∙_}
 use Rattle.control.specs.Control.{givenCounter}
 use borrow.Author.Needs.{needs}
@@ -10,11 +10,11 @@ returns-2 c =
     rw (
       sym (c .before .before .before .before .before .before .new .ensures) ∙ ap givenCounter (c .before .before .before .before .a .given .1),
       sym (c .before .before .new2 .ensures) ∙ ap givenCounter (c .enum-told2 .given .1),
-    ) (told (refl, refl))
+    ) (reports (refl, refl))
 
 returns-3 : tie.Need-returns-3
 returns-3 c =
-    follows-told _ _ _ _ _ _
+    follows-reports _ _ _ _ _ _
     (ap givenCounter (sym (c .before .before .before .before .before .before .a .given .1)) ∙ c .before .before .before .before .before .before .before .before .new .ensures)
     (ap givenCounter (sym (c .before .before .b .given .1)) ∙ c .before .before .before .before .new2 .ensures)
     (c .follows .ensures)
@@ -26,7 +26,7 @@ cmv-continuity-counter-follows-spec =
     (λ c κs. search needs)
     (λ c. search needs)
     (λ c. search needs)
-    (λ c. rw (sym (c .before .before .new .ensures) ∙ ap givenCounter (c .enum-told .given .1)) (told (refl, refl)))
+    (λ c. rw (sym (c .before .before .new .ensures) ∙ ap givenCounter (c .enum-told .given .1)) (reports (refl, refl)))
     (λ c κs. search needs)
     (λ c. search needs)
     (λ c. search needs)

@@ -1,4 +1,4 @@
-use Rattle.host.proofs.Laws.{told-as}
+use Rattle.host.proofs.Laws.{reports-as}
 use mathlib.Core.Path.{sym}
 use borrow.Author.Needs.{needs}
 use Rattle.host.proofs.clocks.cmv_pid_try_from.Statement.{statement}
@@ -10,4 +10,4 @@ cmv-pid-try-from-spec =
     (tie.spec
     (λ c κs. search needs)
     (λ c κs. search needs)
-    (λ c. told-as (sym (c .before .before .try-from .ensures)) (c .tell-pid .ensures)))
+    (λ c. reports-as (sym (c .before .before .try-from .ensures)) (c .report-pid .ensures)))

@@ -8,4 +8,4 @@ cmv-transport-scrambling-control-spec =
     (tie.spec
     (λ c κs. search needs)
     (λ c κs. search needs)
-    (λ c. rw (c .before .before .before .from-byte-four .ensures) at (c .tell-scrambling .ensures)))
+    (λ c. rw (c .before .before .before .from-byte-four .ensures) at (c .report-scrambling .ensures)))

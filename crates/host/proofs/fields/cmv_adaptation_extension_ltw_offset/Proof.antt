@@ -1,4 +1,4 @@
-use Rattle.host.proofs.Laws.{told, told-of}
+use Rattle.host.proofs.Laws.{reports, reports-of}
 use mathlib.Core.Path.{refl}
 use Rattle.adaptation.specs.Extension.{givenLtw}
 use borrow.Author.Needs.{needs}
@@ -15,7 +15,7 @@ cmv-adaptation-extension-ltw-offset-spec =
     (λ c. search needs)
     (λ c. search needs)
     (λ c. search needs)
-    (λ c. told-of givenLtw (c .before .n .given .1) (c .before .before .before .ltw-offset .ensures) (told (refl, refl)))
-    (λ c. told-of givenLtw (c .enum-told .given .1) (c .before .before .ltw-offset .ensures) (told (refl, refl)))
-    (λ c. told-of givenLtw (c .enum-told2 .given .1) (c .before .before .ltw-offset .ensures) (told (refl, refl)))
-    (λ c. told-of givenLtw (c .enum-told3 .given .1) (c .before .before .ltw-offset .ensures) (told (refl, refl))))
+    (λ c. reports-of givenLtw (c .before .n .given .1) (c .before .before .before .ltw-offset .ensures) (reports (refl, refl)))
+    (λ c. reports-of givenLtw (c .enum-told .given .1) (c .before .before .ltw-offset .ensures) (reports (refl, refl)))
+    (λ c. reports-of givenLtw (c .enum-told2 .given .1) (c .before .before .ltw-offset .ensures) (reports (refl, refl)))
+    (λ c. reports-of givenLtw (c .enum-told3 .given .1) (c .before .before .ltw-offset .ensures) (reports (refl, refl))))

@@ -1,4 +1,4 @@
-use Rattle.host.proofs.Laws.{told, told-of}
+use Rattle.host.proofs.Laws.{reports, reports-of}
 use mathlib.Core.Path.{refl}
 use Rattle.adaptation.specs.Extension.{givenRate}
 use borrow.Author.Needs.{needs}
@@ -14,6 +14,6 @@ cmv-adaptation-extension-piecewise-rate-spec =
     (λ c. search needs)
     (λ c. search needs)
     (λ c. search needs)
-    (λ c. told-of givenRate (c .before .n .given .1) (c .before .before .before .piecewise-rate .ensures) (told (refl, refl)))
-    (λ c. told-of givenRate (c .enum-told .given .1) (c .before .before .piecewise-rate .ensures) (told (refl, refl)))
-    (λ c. told-of givenRate (c .enum-told2 .given .1) (c .before .before .piecewise-rate .ensures) (told (refl, refl))))
+    (λ c. reports-of givenRate (c .before .n .given .1) (c .before .before .before .piecewise-rate .ensures) (reports (refl, refl)))
+    (λ c. reports-of givenRate (c .enum-told .given .1) (c .before .before .piecewise-rate .ensures) (reports (refl, refl)))
+    (λ c. reports-of givenRate (c .enum-told2 .given .1) (c .before .before .piecewise-rate .ensures) (reports (refl, refl))))

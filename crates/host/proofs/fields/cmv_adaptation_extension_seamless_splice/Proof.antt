@@ -1,4 +1,4 @@
-use Rattle.host.proofs.Laws.{told, told-of}
+use Rattle.host.proofs.Laws.{reports, reports-of}
 use mathlib.Core.Path.{refl}
 use native.Mathlib.Omega.{arith}
 use Rattle.adaptation.specs.Extension.{givenSplice}
@@ -22,7 +22,7 @@ cmv-adaptation-extension-seamless-splice-spec =
     (λ c. search needs)
     (λ c. search needs)
     (λ c. search needs)
-    (λ c. told-of givenSplice (c .before .before .before .s .given .1) (c .before .before .before .before .before .seamless-splice .ensures) (told (refl, simp (c .value .ensures))))
-    (λ c. told-of givenSplice (c .enum-told .given .1) (c .before .before .seamless-splice .ensures) (told (refl, refl)))
-    (λ c. told-of givenSplice (c .enum-told2 .given .1) (c .before .before .seamless-splice .ensures) (told (refl, refl)))
-    (λ c. told-of givenSplice (c .before .bit-number .given .1) (c .before .before .before .seamless-splice .ensures) (told (omega arith, refl))))
+    (λ c. reports-of givenSplice (c .before .before .before .s .given .1) (c .before .before .before .before .before .seamless-splice .ensures) (reports (refl, simp (c .value .ensures))))
+    (λ c. reports-of givenSplice (c .enum-told .given .1) (c .before .before .seamless-splice .ensures) (reports (refl, refl)))
+    (λ c. reports-of givenSplice (c .enum-told2 .given .1) (c .before .before .seamless-splice .ensures) (reports (refl, refl)))
+    (λ c. reports-of givenSplice (c .before .bit-number .given .1) (c .before .before .before .seamless-splice .ensures) (reports (omega arith, refl))))

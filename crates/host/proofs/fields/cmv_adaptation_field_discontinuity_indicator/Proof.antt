@@ -1,4 +1,4 @@
-use Rattle.host.proofs.Laws.{told-as}
+use Rattle.host.proofs.Laws.{reports-as}
 use mathlib.Core.Path.{sym}
 use borrow.Author.Needs.{needs}
 use Rattle.host.proofs.fields.cmv_adaptation_field_discontinuity_indicator.Statement.{
@@ -12,4 +12,4 @@ cmv-adaptation-field-discontinuity-indicator-spec =
     (tie.spec
     (λ c κs. search needs)
     (λ c κs. search needs)
-    (λ c. told-as (sym (c .before .before .discontinuity-indicator .ensures)) (c .tell-flag .ensures)))
+    (λ c. reports-as (sym (c .before .before .discontinuity-indicator .ensures)) (c .report-flag .ensures)))

@@ -1,4 +1,4 @@
-use Rattle.host.proofs.Laws.{told-as}
+use Rattle.host.proofs.Laws.{reports-as}
 use mathlib.Core.Path.{sym}
 use borrow.Author.Needs.{needs}
 use Rattle.host.proofs.fields.cmv_adaptation_field_opcr.Statement.{statement}
@@ -10,4 +10,4 @@ cmv-adaptation-field-opcr-spec =
     (tie.spec
     (λ c κs. search needs)
     (λ c κs. search needs)
-    (λ c. told-as (sym (c .before .before .before .opcr .ensures)) (c .tell-clock-read .ensures)))
+    (λ c. reports-as (sym (c .before .before .before .opcr .ensures)) (c .report-clock-read .ensures)))

@@ -1,4 +1,4 @@
-use Rattle.host.proofs.Laws.{told, told-of}
+use Rattle.host.proofs.Laws.{reports, reports-of}
 use mathlib.Core.Path.{refl}
 use Rattle.adaptation.specs.Adaptation.{givenByte}
 use borrow.Author.Needs.{needs}
@@ -15,7 +15,7 @@ cmv-adaptation-field-splice-countdown-spec =
     (λ c. search needs)
     (λ c. search needs)
     (λ c. search needs)
-    (λ c. told-of givenByte (c .before .n .given .1) (c .before .before .before .splice-countdown .ensures) (told (refl, refl)))
-    (λ c. told-of givenByte (c .enum-told .given .1) (c .before .before .splice-countdown .ensures) (told (refl, refl)))
-    (λ c. told-of givenByte (c .enum-told2 .given .1) (c .before .before .splice-countdown .ensures) (told (refl, refl)))
-    (λ c. told-of givenByte (c .enum-told3 .given .1) (c .before .before .splice-countdown .ensures) (told (refl, refl))))
+    (λ c. reports-of givenByte (c .before .n .given .1) (c .before .before .before .splice-countdown .ensures) (reports (refl, refl)))
+    (λ c. reports-of givenByte (c .enum-told .given .1) (c .before .before .splice-countdown .ensures) (reports (refl, refl)))
+    (λ c. reports-of givenByte (c .enum-told2 .given .1) (c .before .before .splice-countdown .ensures) (reports (refl, refl)))
+    (λ c. reports-of givenByte (c .enum-told3 .given .1) (c .before .before .splice-countdown .ensures) (reports (refl, refl))))

@@ -1,4 +1,4 @@
-use Rattle.host.proofs.Laws.{told-as}
+use Rattle.host.proofs.Laws.{reports-as}
 use mathlib.Core.Path.{sym}
 use borrow.Author.Needs.{needs}
 use Rattle.host.proofs.fields.cmv_adaptation_field_transport_private_data.Statement.{
@@ -12,4 +12,4 @@ cmv-adaptation-field-transport-private-data-spec =
     (tie.spec
     (λ c κs. search needs)
     (λ c κs. search needs)
-    (λ c. told-as (sym (c .before .before .before .transport-private-data-at .ensures)) (c .tell-part .ensures)))
+    (λ c. reports-as (sym (c .before .before .before .transport-private-data-at .ensures)) (c .report-part .ensures)))

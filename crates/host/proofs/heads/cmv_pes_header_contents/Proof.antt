@@ -1,4 +1,4 @@
-use Rattle.host.proofs.Laws.{told, told-of}
+use Rattle.host.proofs.Laws.{reports, reports-of}
 use mathlib.Core.Path.{refl}
 use Rattle.pes.specs.Head.{givenContents}
 use borrow.Author.Needs.{needs}
@@ -14,7 +14,7 @@ cmv-pes-header-contents-spec =
     (λ c. search needs)
     (λ c. search needs)
     (λ c. search needs)
-    (λ c. told-of givenContents (c .before .p .given .1) (c .before .before .before .contents .ensures) (told (refl, refl)))
-    (λ c. told-of givenContents (c .before .p2 .given .1) (c .before .before .before .contents .ensures) (told (refl, refl)))
-    (λ c. told-of givenContents (c .enum-told .given .1) (c .before .before .contents .ensures) (told (refl, refl)))
-    (λ c. told-of givenContents (c .enum-told2 .given .1) (c .before .before .contents .ensures) (told (refl, refl))))
+    (λ c. reports-of givenContents (c .before .p .given .1) (c .before .before .before .contents .ensures) (reports (refl, refl)))
+    (λ c. reports-of givenContents (c .before .p2 .given .1) (c .before .before .before .contents .ensures) (reports (refl, refl)))
+    (λ c. reports-of givenContents (c .enum-told .given .1) (c .before .before .contents .ensures) (reports (refl, refl)))
+    (λ c. reports-of givenContents (c .enum-told2 .given .1) (c .before .before .contents .ensures) (reports (refl, refl))))

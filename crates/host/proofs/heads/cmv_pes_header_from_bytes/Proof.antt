@@ -1,4 +1,4 @@
-use Rattle.host.proofs.Laws.{told, told-of}
+use Rattle.host.proofs.Laws.{reports, reports-of}
 use mathlib.Core.Path.{refl}
 use Rattle.pes.specs.Head.{givenHead}
 use borrow.Author.Needs.{needs}
@@ -13,6 +13,6 @@ cmv-pes-header-from-bytes-spec =
     (λ c. search needs)
     (λ c. search needs)
     (λ c. search needs)
-    (λ c. told-of givenHead (c .enum-told .given .1) (c .before .before .from-bytes .ensures) (told (refl, refl)))
-    (λ c. told-of givenHead (c .enum-told2 .given .1) (c .before .before .from-bytes .ensures) (told (refl, refl)))
-    (λ c. told-of givenHead (c .enum-told3 .given .1) (c .before .before .from-bytes .ensures) (told (refl, refl))))
+    (λ c. reports-of givenHead (c .enum-told .given .1) (c .before .before .from-bytes .ensures) (reports (refl, refl)))
+    (λ c. reports-of givenHead (c .enum-told2 .given .1) (c .before .before .from-bytes .ensures) (reports (refl, refl)))
+    (λ c. reports-of givenHead (c .enum-told3 .given .1) (c .before .before .from-bytes .ensures) (reports (refl, refl))))

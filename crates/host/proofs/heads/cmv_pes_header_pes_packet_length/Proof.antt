@@ -1,4 +1,4 @@
-use Rattle.host.proofs.Laws.{told, told-of}
+use Rattle.host.proofs.Laws.{reports, reports-of}
 use mathlib.Core.Path.{refl}
 use Rattle.pes.specs.Head.{givenLength}
 use borrow.Author.Needs.{needs}
@@ -15,7 +15,7 @@ cmv-pes-header-pes-packet-length-spec =
     (λ c. search needs)
     (λ c. search needs)
     (λ c. search needs)
-    (λ c. told-of givenLength (c .enum-told .given .1) (c .before .before .pes-packet-length .ensures) (told (refl, refl)))
-    (λ c. told-of givenLength (c .before .n .given .1) (c .before .before .before .pes-packet-length .ensures) (told (refl, refl)))
-    (λ c. told-of givenLength (c .enum-told2 .given .1) (c .before .before .pes-packet-length .ensures) (told (refl, refl)))
-    (λ c. told-of givenLength (c .enum-told3 .given .1) (c .before .before .pes-packet-length .ensures) (told (refl, refl))))
+    (λ c. reports-of givenLength (c .enum-told .given .1) (c .before .before .pes-packet-length .ensures) (reports (refl, refl)))
+    (λ c. reports-of givenLength (c .before .n .given .1) (c .before .before .before .pes-packet-length .ensures) (reports (refl, refl)))
+    (λ c. reports-of givenLength (c .enum-told2 .given .1) (c .before .before .pes-packet-length .ensures) (reports (refl, refl)))
+    (λ c. reports-of givenLength (c .enum-told3 .given .1) (c .before .before .pes-packet-length .ensures) (reports (refl, refl))))

@@ -1,4 +1,4 @@
-use Rattle.host.proofs.Laws.{told, told-as, told-of}
+use Rattle.host.proofs.Laws.{reports, reports-as, reports-of}
 use mathlib.Core.Path.{refl, sym, ap, _∙_}
 use Rattle.bits.specs.Answer.{answer}
 use Rattle.pes.specs.Head.{givenStreamId}
@@ -15,6 +15,6 @@ cmv-pes-header-stream-id-spec =
     (λ c κs. search needs)
     (λ c. search needs)
     (λ c. search needs)
-    (λ c. told-as (sym (c .before .before .before .before .stream-id .ensures) ∙ ap givenStreamId (c .before .before .s .given .1) ∙ ap (answer 0) (sym (c .values .ensures))) (told (refl, refl)))
-    (λ c. told-of givenStreamId (c .enum-told .given .1) (c .before .before .stream-id .ensures) (told (refl, refl)))
-    (λ c. told-of givenStreamId (c .enum-told2 .given .1) (c .before .before .stream-id .ensures) (told (refl, refl))))
+    (λ c. reports-as (sym (c .before .before .before .before .stream-id .ensures) ∙ ap givenStreamId (c .before .before .s .given .1) ∙ ap (answer 0) (sym (c .values .ensures))) (reports (refl, refl)))
+    (λ c. reports-of givenStreamId (c .enum-told .given .1) (c .before .before .stream-id .ensures) (reports (refl, refl)))
+    (λ c. reports-of givenStreamId (c .enum-told2 .given .1) (c .before .before .stream-id .ensures) (reports (refl, refl))))

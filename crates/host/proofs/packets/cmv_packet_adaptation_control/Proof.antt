@@ -1,4 +1,4 @@
-use Rattle.host.proofs.Laws.{told, four-told}
+use Rattle.host.proofs.Laws.{reports, four-reports}
 use mathlib.Core.Path.{refl}
 use Rattle.packet.specs.Packet.{givenControl}
 use Rattle.host.specs.Clocks.{controlAnswer}
@@ -15,6 +15,6 @@ cmv-packet-adaptation-control-spec =
     (λ c κs. search needs)
     (λ c. search needs)
     (λ c. search needs)
-    (λ c. four-told _ controlAnswer givenControl (c .before .before .before .before .a .given .1) (c .before .before .before .before .before .before .adaptation-control .ensures) (c .tell-control .ensures))
-    (λ c. four-told _ controlAnswer givenControl (c .enum-told .given .1) (c .before .before .adaptation-control .ensures) (told (refl, refl)))
-    (λ c. four-told _ controlAnswer givenControl (c .enum-told2 .given .1) (c .before .before .adaptation-control .ensures) (told (refl, refl))))
+    (λ c. four-reports _ controlAnswer givenControl (c .before .before .before .before .a .given .1) (c .before .before .before .before .before .before .adaptation-control .ensures) (c .report-control .ensures))
+    (λ c. four-reports _ controlAnswer givenControl (c .enum-told .given .1) (c .before .before .adaptation-control .ensures) (reports (refl, refl)))
+    (λ c. four-reports _ controlAnswer givenControl (c .enum-told2 .given .1) (c .before .before .adaptation-control .ensures) (reports (refl, refl))))

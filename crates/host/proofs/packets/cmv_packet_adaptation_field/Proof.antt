@@ -1,4 +1,4 @@
-use Rattle.host.proofs.Laws.{told-as}
+use Rattle.host.proofs.Laws.{reports-as}
 use mathlib.Core.Path.{sym}
 use borrow.Author.Needs.{needs}
 use Rattle.host.proofs.packets.cmv_packet_adaptation_field.Statement.{statement}
@@ -10,4 +10,4 @@ cmv-packet-adaptation-field-spec =
     (tie.spec
     (λ c κs. search needs)
     (λ c κs. search needs)
-    (λ c. told-as (sym (c .before .before .before .adaptation-field-at .ensures)) (c .tell-part .ensures)))
+    (λ c. reports-as (sym (c .before .before .before .adaptation-field-at .ensures)) (c .report-part .ensures)))

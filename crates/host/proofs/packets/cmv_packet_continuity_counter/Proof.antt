@@ -1,4 +1,4 @@
-use Rattle.host.proofs.Laws.{told, told-of}
+use Rattle.host.proofs.Laws.{reports, reports-of}
 use mathlib.Core.Path.{refl}
 use Rattle.packet.specs.Packet.{givenCounter}
 use borrow.Author.Needs.{needs}
@@ -15,6 +15,6 @@ cmv-packet-continuity-counter-spec =
     (λ c. search needs)
     (λ c. search needs)
     (λ c. search needs)
-    (λ c. told-of givenCounter (c .before .before .k .given .1) (c .before .before .before .before .continuity-counter .ensures) (told (refl, simp (c .count .ensures))))
-    (λ c. told-of givenCounter (c .enum-told .given .1) (c .before .before .continuity-counter .ensures) (told (refl, refl)))
-    (λ c. told-of givenCounter (c .enum-told2 .given .1) (c .before .before .continuity-counter .ensures) (told (refl, refl))))
+    (λ c. reports-of givenCounter (c .before .before .k .given .1) (c .before .before .before .before .continuity-counter .ensures) (reports (refl, simp (c .count .ensures))))
+    (λ c. reports-of givenCounter (c .enum-told .given .1) (c .before .before .continuity-counter .ensures) (reports (refl, refl)))
+    (λ c. reports-of givenCounter (c .enum-told2 .given .1) (c .before .before .continuity-counter .ensures) (reports (refl, refl))))

@@ -1,4 +1,4 @@
-use Rattle.host.proofs.Laws.{told, told-of}
+use Rattle.host.proofs.Laws.{reports, reports-of}
 use mathlib.Core.Path.{refl}
 use Rattle.packet.specs.Packet.{givenPid}
 use borrow.Author.Needs.{needs}
@@ -15,6 +15,6 @@ cmv-packet-pid-spec =
     (λ c. search needs)
     (λ c. search needs)
     (λ c. search needs)
-    (λ c. told-of givenPid (c .before .before .p .given .1) (c .before .before .before .before .pid .ensures) (told (refl, simp (c .into-u16 .ensures))))
-    (λ c. told-of givenPid (c .enum-told .given .1) (c .before .before .pid .ensures) (told (refl, refl)))
-    (λ c. told-of givenPid (c .enum-told2 .given .1) (c .before .before .pid .ensures) (told (refl, refl))))
+    (λ c. reports-of givenPid (c .before .before .p .given .1) (c .before .before .before .before .pid .ensures) (reports (refl, simp (c .into-u16 .ensures))))
+    (λ c. reports-of givenPid (c .enum-told .given .1) (c .before .before .pid .ensures) (reports (refl, refl)))
+    (λ c. reports-of givenPid (c .enum-told2 .given .1) (c .before .before .pid .ensures) (reports (refl, refl))))

@@ -1,4 +1,4 @@
-use Rattle.host.proofs.Laws.{told-as}
+use Rattle.host.proofs.Laws.{reports-as}
 use mathlib.Core.Path.{sym}
 use borrow.Author.Needs.{needs}
 use Rattle.host.proofs.packets.cmv_packet_transport_error_indicator.Statement.{statement}
@@ -10,4 +10,4 @@ cmv-packet-transport-error-indicator-spec =
     (tie.spec
     (λ c κs. search needs)
     (λ c κs. search needs)
-    (λ c. told-as (sym (c .before .before .transport-error-indicator .ensures)) (c .tell-flag .ensures)))
+    (λ c. reports-as (sym (c .before .before .transport-error-indicator .ensures)) (c .report-flag .ensures)))

@@ -1,4 +1,4 @@
-use Rattle.host.proofs.Laws.{told, four-told}
+use Rattle.host.proofs.Laws.{reports, four-reports}
 use mathlib.Core.Path.{refl}
 use Rattle.packet.specs.Packet.{givenScrambling}
 use Rattle.host.specs.Clocks.{scramblingAnswer}
@@ -17,6 +17,6 @@ cmv-packet-transport-scrambling-control-spec =
     (λ c κs. search needs)
     (λ c. search needs)
     (λ c. search needs)
-    (λ c. four-told _ scramblingAnswer givenScrambling (c .before .before .before .before .s .given .1) (c .before .before .before .before .before .before .transport-scrambling-control .ensures) (c .tell-scrambling .ensures))
-    (λ c. four-told _ scramblingAnswer givenScrambling (c .enum-told .given .1) (c .before .before .transport-scrambling-control .ensures) (told (refl, refl)))
-    (λ c. four-told _ scramblingAnswer givenScrambling (c .enum-told2 .given .1) (c .before .before .transport-scrambling-control .ensures) (told (refl, refl))))
+    (λ c. four-reports _ scramblingAnswer givenScrambling (c .before .before .before .before .s .given .1) (c .before .before .before .before .before .before .transport-scrambling-control .ensures) (c .report-scrambling .ensures))
+    (λ c. four-reports _ scramblingAnswer givenScrambling (c .enum-told .given .1) (c .before .before .transport-scrambling-control .ensures) (reports (refl, refl)))
+    (λ c. four-reports _ scramblingAnswer givenScrambling (c .enum-told2 .given .1) (c .before .before .transport-scrambling-control .ensures) (reports (refl, refl))))

@@ -1,4 +1,4 @@
-use Rattle.host.proofs.Laws.{told, told-of}
+use Rattle.host.proofs.Laws.{reports, reports-of}
 use mathlib.Core.Path.{refl}
 use Rattle.packet.specs.Packet.{givenTried}
 use borrow.Author.Needs.{needs}
@@ -13,6 +13,6 @@ cmv-packet-try-new-spec =
     (λ c. search needs)
     (λ c. search needs)
     (λ c. search needs)
-    (λ c. told-of givenTried (c .enum-told .given .1) (c .before .before .try-new .ensures) (told (refl, refl)))
-    (λ c. told-of givenTried (c .enum-told2 .given .1) (c .before .before .try-new .ensures) (told (refl, refl)))
-    (λ c. told-of givenTried (c .enum-told3 .given .1) (c .before .before .try-new .ensures) (told (refl, refl))))
+    (λ c. reports-of givenTried (c .enum-told .given .1) (c .before .before .try-new .ensures) (reports (refl, refl)))
+    (λ c. reports-of givenTried (c .enum-told2 .given .1) (c .before .before .try-new .ensures) (reports (refl, refl)))
+    (λ c. reports-of givenTried (c .enum-told3 .given .1) (c .before .before .try-new .ensures) (reports (refl, refl))))

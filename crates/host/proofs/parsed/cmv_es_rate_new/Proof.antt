@@ -1,4 +1,4 @@
-use Rattle.host.proofs.Laws.{told, told-of}
+use Rattle.host.proofs.Laws.{reports, reports-of}
 use mathlib.Core.Path.{refl}
 use Rattle.contents.specs.Given.{givenRateMade}
 use borrow.Author.Needs.{needs}
@@ -14,5 +14,5 @@ cmv-es-rate-new-spec =
     (λ c κs. search needs)
     (λ c. search needs)
     (λ c. search needs)
-    (λ c. told-of givenRateMade (c .before .before .e .given .1) (c .before .before .before .before .new .ensures) (told (refl, simp (c .into-u32 .ensures))))
-    (λ c. told-of givenRateMade (c .enum-told .given .1) (c .before .before .new .ensures) (told (refl, refl))))
+    (λ c. reports-of givenRateMade (c .before .before .e .given .1) (c .before .before .before .before .new .ensures) (reports (refl, simp (c .into-u32 .ensures))))
+    (λ c. reports-of givenRateMade (c .enum-told .given .1) (c .before .before .new .ensures) (reports (refl, refl))))

@@ -1,4 +1,4 @@
-use Rattle.host.proofs.Laws.{told, told-of}
+use Rattle.host.proofs.Laws.{reports, reports-of}
 use mathlib.Core.Path.{refl}
 use native.Mathlib.Omega.{arith}
 use Rattle.contents.specs.Given.{givenCopyInfo}
@@ -20,7 +20,7 @@ cmv-pes-contents-additional-copy-info-spec =
     (λ c. search needs)
     (λ c. search needs)
     (λ c κs. search needs)
-    (λ c. told-of givenCopyInfo (c .before .n .given .1) (c .before .before .before .additional-copy-info .ensures) (told (refl, refl)))
-    (λ c. told-of givenCopyInfo (c .enum-told .given .1) (c .before .before .additional-copy-info .ensures) (told (refl, refl)))
-    (λ c. told-of givenCopyInfo (c .before .bit-number .given .1) (c .before .before .before .additional-copy-info .ensures) (told (omega arith, refl)))
-    (λ c. told-of givenCopyInfo (c .before .before .r .given .1) (c .before .before .before .before .additional-copy-info .ensures) (c .refused .ensures _)))
+    (λ c. reports-of givenCopyInfo (c .before .n .given .1) (c .before .before .before .additional-copy-info .ensures) (reports (refl, refl)))
+    (λ c. reports-of givenCopyInfo (c .enum-told .given .1) (c .before .before .additional-copy-info .ensures) (reports (refl, refl)))
+    (λ c. reports-of givenCopyInfo (c .before .bit-number .given .1) (c .before .before .before .additional-copy-info .ensures) (reports (omega arith, refl)))
+    (λ c. reports-of givenCopyInfo (c .before .before .r .given .1) (c .before .before .before .before .additional-copy-info .ensures) (c .refused .ensures _)))

@@ -1,4 +1,4 @@
-use Rattle.host.proofs.Laws.{told, told-of}
+use Rattle.host.proofs.Laws.{reports, reports-of}
 use mathlib.Core.Path.{refl}
 use Rattle.contents.specs.Given.{givenCopyright}
 use borrow.Author.Needs.{needs}
@@ -14,5 +14,5 @@ cmv-pes-contents-copyright-spec =
     (λ c κs. search needs)
     (λ c. search needs)
     (λ c κs. search needs)
-    (λ c. told-of givenCopyright (c .before .before .s .given .1) (c .before .before .before .before .copyright .ensures) (told (refl, simp (c .undefined .ensures))))
-    (λ c. told-of givenCopyright (c .before .before .r .given .1) (c .before .before .before .before .copyright .ensures) (c .refused .ensures _)))
+    (λ c. reports-of givenCopyright (c .before .before .s .given .1) (c .before .before .before .before .copyright .ensures) (reports (refl, simp (c .undefined .ensures))))
+    (λ c. reports-of givenCopyright (c .before .before .r .given .1) (c .before .before .before .before .copyright .ensures) (c .refused .ensures _)))

@@ -1,4 +1,4 @@
-use Rattle.host.proofs.Laws.{told, told-of}
+use Rattle.host.proofs.Laws.{reports, reports-of}
 use mathlib.Core.Path.{refl}
 use Rattle.contents.specs.Given.{givenAlignment}
 use borrow.Author.Needs.{needs}
@@ -16,5 +16,5 @@ cmv-pes-contents-data-alignment-indicator-spec =
     (λ c κs. search needs)
     (λ c. search needs)
     (λ c κs. search needs)
-    (λ c. told-of givenAlignment (c .before .before .a .given .1) (c .before .before .before .before .data-alignment-indicator .ensures) (told (refl, simp (c .aligned .ensures))))
-    (λ c. told-of givenAlignment (c .before .before .r .given .1) (c .before .before .before .before .data-alignment-indicator .ensures) (c .refused .ensures _)))
+    (λ c. reports-of givenAlignment (c .before .before .a .given .1) (c .before .before .before .before .data-alignment-indicator .ensures) (reports (refl, simp (c .aligned .ensures))))
+    (λ c. reports-of givenAlignment (c .before .before .r .given .1) (c .before .before .before .before .data-alignment-indicator .ensures) (c .refused .ensures _)))

@@ -1,4 +1,4 @@
-use Rattle.host.proofs.Laws.{told, told-of}
+use Rattle.host.proofs.Laws.{reports, reports-of}
 use mathlib.Core.Path.{refl}
 use Rattle.contents.specs.Given.{givenTrick}
 use borrow.Author.Needs.{needs}
@@ -15,6 +15,6 @@ cmv-pes-contents-dsm-trick-mode-spec =
     (λ c. search needs)
     (λ c. search needs)
     (λ c κs. search needs)
-    (λ c. told-of givenTrick (c .before .before .t .given .1) (c .before .before .before .before .dsm-trick-mode .ensures) (told (refl, c .trick .ensures)))
-    (λ c. told-of givenTrick (c .enum-told .given .1) (c .before .before .dsm-trick-mode .ensures) (told (refl, refl)))
-    (λ c. told-of givenTrick (c .before .before .r .given .1) (c .before .before .before .before .dsm-trick-mode .ensures) (c .refused .ensures _)))
+    (λ c. reports-of givenTrick (c .before .before .t .given .1) (c .before .before .before .before .dsm-trick-mode .ensures) (reports (refl, c .trick .ensures)))
+    (λ c. reports-of givenTrick (c .enum-told .given .1) (c .before .before .dsm-trick-mode .ensures) (reports (refl, refl)))
+    (λ c. reports-of givenTrick (c .before .before .r .given .1) (c .before .before .before .before .dsm-trick-mode .ensures) (c .refused .ensures _)))

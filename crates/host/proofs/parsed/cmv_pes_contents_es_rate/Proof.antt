@@ -1,4 +1,4 @@
-use Rattle.host.proofs.Laws.{told, told-of}
+use Rattle.host.proofs.Laws.{reports, reports-of}
 use mathlib.Core.Path.{refl}
 use Rattle.contents.specs.Given.{givenEsRate}
 use borrow.Author.Needs.{needs}
@@ -16,6 +16,6 @@ cmv-pes-contents-es-rate-spec =
     (λ c. search needs)
     (λ c. search needs)
     (λ c κs. search needs)
-    (λ c. told-of givenEsRate (c .before .before .e .given .1) (c .before .before .before .before .es-rate .ensures) (told (refl, simp (c .into-u32 .ensures))))
-    (λ c. told-of givenEsRate (c .enum-told .given .1) (c .before .before .es-rate .ensures) (told (refl, refl)))
-    (λ c. told-of givenEsRate (c .before .before .r .given .1) (c .before .before .before .before .es-rate .ensures) (c .refused .ensures _)))
+    (λ c. reports-of givenEsRate (c .before .before .e .given .1) (c .before .before .before .before .es-rate .ensures) (reports (refl, simp (c .into-u32 .ensures))))
+    (λ c. reports-of givenEsRate (c .enum-told .given .1) (c .before .before .es-rate .ensures) (reports (refl, refl)))
+    (λ c. reports-of givenEsRate (c .before .before .r .given .1) (c .before .before .before .before .es-rate .ensures) (c .refused .ensures _)))

@@ -1,4 +1,4 @@
-use Rattle.host.proofs.Laws.{told, told-of}
+use Rattle.host.proofs.Laws.{reports, reports-of}
 use mathlib.Core.Path.{refl}
 use Rattle.contents.specs.Given.{givenEscr}
 use borrow.Author.Needs.{needs}
@@ -15,6 +15,6 @@ cmv-pes-contents-escr-spec =
     (λ c. search needs)
     (λ c. search needs)
     (λ c κs. search needs)
-    (λ c. told-of givenEscr (c .before .before .before .before .k .given .1) (c .before .before .before .before .before .before .escr .ensures) (c .tell-clock .ensures))
-    (λ c. told-of givenEscr (c .enum-told .given .1) (c .before .before .escr .ensures) (told (refl, refl)))
-    (λ c. told-of givenEscr (c .before .before .r .given .1) (c .before .before .before .before .escr .ensures) (c .refused .ensures _)))
+    (λ c. reports-of givenEscr (c .before .before .before .before .k .given .1) (c .before .before .before .before .before .before .escr .ensures) (c .report-clock .ensures))
+    (λ c. reports-of givenEscr (c .enum-told .given .1) (c .before .before .escr .ensures) (reports (refl, refl)))
+    (λ c. reports-of givenEscr (c .before .before .r .given .1) (c .before .before .before .before .escr .ensures) (c .refused .ensures _)))

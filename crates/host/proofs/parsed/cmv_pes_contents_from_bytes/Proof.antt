@@ -1,4 +1,4 @@
-use Rattle.host.proofs.Laws.{told, told-of}
+use Rattle.host.proofs.Laws.{reports, reports-of}
 use mathlib.Core.Path.{refl}
 use Rattle.contents.specs.Given.{givenContents}
 use borrow.Author.Needs.{needs}
@@ -13,5 +13,5 @@ cmv-pes-contents-from-bytes-spec =
     (λ c. search needs)
     (λ c. search needs)
     (λ c κs. search needs)
-    (λ c. told-of givenContents (c .enum-told .given .1) (c .before .before .from-bytes .ensures) (told (refl, refl)))
-    (λ c. told-of givenContents (c .before .before .r .given .1) (c .before .before .before .before .from-bytes .ensures) (c .refused .ensures _)))
+    (λ c. reports-of givenContents (c .enum-told .given .1) (c .before .before .from-bytes .ensures) (reports (refl, refl)))
+    (λ c. reports-of givenContents (c .before .before .r .given .1) (c .before .before .before .before .from-bytes .ensures) (c .refused .ensures _)))

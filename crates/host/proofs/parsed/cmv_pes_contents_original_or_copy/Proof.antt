@@ -1,4 +1,4 @@
-use Rattle.host.proofs.Laws.{told, told-of}
+use Rattle.host.proofs.Laws.{reports, reports-of}
 use mathlib.Core.Path.{refl}
 use Rattle.contents.specs.Given.{givenOriginal}
 use borrow.Author.Needs.{needs}
@@ -14,5 +14,5 @@ cmv-pes-contents-original-or-copy-spec =
     (λ c κs. search needs)
     (λ c. search needs)
     (λ c κs. search needs)
-    (λ c. told-of givenOriginal (c .before .before .o .given .1) (c .before .before .before .before .original-or-copy .ensures) (told (refl, simp (c .original .ensures))))
-    (λ c. told-of givenOriginal (c .before .before .r .given .1) (c .before .before .before .before .original-or-copy .ensures) (c .refused .ensures _)))
+    (λ c. reports-of givenOriginal (c .before .before .o .given .1) (c .before .before .before .before .original-or-copy .ensures) (reports (refl, simp (c .original .ensures))))
+    (λ c. reports-of givenOriginal (c .before .before .r .given .1) (c .before .before .before .before .original-or-copy .ensures) (c .refused .ensures _)))

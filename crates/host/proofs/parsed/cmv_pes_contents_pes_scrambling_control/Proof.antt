@@ -1,4 +1,4 @@
-use Rattle.host.proofs.Laws.{told-as}
+use Rattle.host.proofs.Laws.{reports-as}
 use mathlib.Core.Path.{sym}
 use borrow.Author.Needs.{needs}
 use Rattle.host.proofs.parsed.cmv_pes_contents_pes_scrambling_control.Statement.{statement}
@@ -10,4 +10,4 @@ cmv-pes-contents-pes-scrambling-control-spec =
     (tie.spec
     (λ c κs. search needs)
     (λ c κs. search needs)
-    (λ c. told-as (sym (c .before .before .pes-scrambling-control .ensures)) (c .tell-byte .ensures)))
+    (λ c. reports-as (sym (c .before .before .pes-scrambling-control .ensures)) (c .report-byte .ensures)))

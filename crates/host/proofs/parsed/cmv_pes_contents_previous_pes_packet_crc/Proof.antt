@@ -1,4 +1,4 @@
-use Rattle.host.proofs.Laws.{told, told-of}
+use Rattle.host.proofs.Laws.{reports, reports-of}
 use mathlib.Core.Path.{refl}
 use Rattle.contents.specs.Given.{givenCrc}
 use borrow.Author.Needs.{needs}
@@ -17,6 +17,6 @@ cmv-pes-contents-previous-pes-packet-crc-spec =
     (λ c. search needs)
     (λ c. search needs)
     (λ c κs. search needs)
-    (λ c. told-of givenCrc (c .before .n .given .1) (c .before .before .before .previous-pes-packet-crc .ensures) (told (refl, refl)))
-    (λ c. told-of givenCrc (c .enum-told .given .1) (c .before .before .previous-pes-packet-crc .ensures) (told (refl, refl)))
-    (λ c. told-of givenCrc (c .before .before .r .given .1) (c .before .before .before .before .previous-pes-packet-crc .ensures) (c .refused .ensures _)))
+    (λ c. reports-of givenCrc (c .before .n .given .1) (c .before .before .before .previous-pes-packet-crc .ensures) (reports (refl, refl)))
+    (λ c. reports-of givenCrc (c .enum-told .given .1) (c .before .before .previous-pes-packet-crc .ensures) (reports (refl, refl)))
+    (λ c. reports-of givenCrc (c .before .before .r .given .1) (c .before .before .before .before .previous-pes-packet-crc .ensures) (c .refused .ensures _)))

@@ -1,4 +1,4 @@
-use Rattle.host.proofs.Laws.{told, told-of}
+use Rattle.host.proofs.Laws.{reports, reports-of}
 use mathlib.Core.Path.{refl}
 use Rattle.contents.specs.Given.{givenField}
 use borrow.Author.Needs.{needs}
@@ -15,6 +15,6 @@ cmv-pes-contents-raw-trick-mode-spec =
     (λ c. search needs)
     (λ c. search needs)
     (λ c κs. search needs)
-    (λ c. told-of givenField (c .before .n .given .1) (c .before .before .before .raw-trick-mode .ensures) (told (refl, refl)))
-    (λ c. told-of givenField (c .enum-told .given .1) (c .before .before .raw-trick-mode .ensures) (told (refl, refl)))
-    (λ c. told-of givenField (c .before .before .r .given .1) (c .before .before .before .before .raw-trick-mode .ensures) (c .refused .ensures _)))
+    (λ c. reports-of givenField (c .before .n .given .1) (c .before .before .before .raw-trick-mode .ensures) (reports (refl, refl)))
+    (λ c. reports-of givenField (c .enum-told .given .1) (c .before .before .raw-trick-mode .ensures) (reports (refl, refl)))
+    (λ c. reports-of givenField (c .before .before .r .given .1) (c .before .before .before .before .raw-trick-mode .ensures) (c .refused .ensures _)))

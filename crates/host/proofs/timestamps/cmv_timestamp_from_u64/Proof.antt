@@ -1,4 +1,4 @@
-use Rattle.host.proofs.Laws.{told, told-of}
+use Rattle.host.proofs.Laws.{reports, reports-of}
 use mathlib.Core.Path.{refl, ap}
 use mathlib.Core.List.{[], _∷_}
 use Prim.Native.Nat.{ℕ}
@@ -9,11 +9,11 @@ use Rattle.host.proofs.timestamps.cmv_timestamp_from_u64.Tie as tie
 
 returns : tie.Need-returns
 returns c =
-    told-of givenMade (c .before .before .t .given .1) (c .before .before .before .before .from-u64 .ensures)
-    (told (refl, ap (λ (v : ℕ). v ∷ []) (c .value .ensures)))
+    reports-of givenMade (c .before .before .t .given .1) (c .before .before .before .before .from-u64 .ensures)
+    (reports (refl, ap (λ (v : ℕ). v ∷ []) (c .value .ensures)))
 
 returns-2 : tie.Need-returns-2
-returns-2 c = told-of givenMade (c .enum-told .given .1) (c .before .before .from-u64 .ensures) (told (refl, refl))
+returns-2 c = reports-of givenMade (c .enum-told .given .1) (c .before .before .from-u64 .ensures) (reports (refl, refl))
 
 pub cmv-timestamp-from-u64-spec : {M : Type 1} → statement M
 cmv-timestamp-from-u64-spec =

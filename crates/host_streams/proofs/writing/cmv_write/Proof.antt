@@ -12,7 +12,7 @@ use Rattle.writer.specs.declared.Unit.{Unit as WrittenUnit}
 use Rattle.writer.specs.declared.Written.{Written}
 use Rattle.writer.specs.Writer.{givenWritten, writeOf, outputOf}
 use Rattle.host.specs.Reports.{Reports}
-use Rattle.host.proofs.Laws.{told, told-of}
+use Rattle.host.proofs.Laws.{reports, reports-of}
 use borrow.Author.Needs.{needs}
 use Rattle.host_streams.proofs.writing.cmv_write.Statement.{statement}
 use Rattle.host_streams.proofs.writing.cmv_write.Tie as tie
@@ -41,7 +41,7 @@ same et ee er ek ey es = rw (et, ee, er, ek, ey, es)
 written : (q : Route) {u u′ : WrittenUnit} (xs ys : List ℕ) {ys′ : List ℕ} {w k : Written} {n : ℕ} {lent left : List ℕ} → w ≡ k
     → (givenWritten w ≡ writeOf q u xs ys) × (ys′ ≡ outputOf q u xs ys) → u ≡ u′ → Reports (givenWritten k) n lent left
     → Reports (writeOf q u′ xs ys) n lent left × (ys′ ≡ outputOf q u′ xs ys)
-written q xs ys f h e t = rw (← e) (told-of givenWritten f (h .0) t, h .1)
+written q xs ys f h e t = rw (← e) (reports-of givenWritten f (h .0) t, h .1)
 
 returns : tie.Need-returns
 returns c =
@@ -51,7 +51,7 @@ returns c =
     written _ _ _ (c .before .n .given .1) (d .write .ensures)
     (same (k .before .before .before .times-of .ensures) (k .before .before .escr-of .ensures) (k .before .rate-of .ensures)
     (k .byte-of .ensures) (s .before .byte-of2 .ensures) (s .crc-of .ensures))
-    (told (refl, refl))
+    (reports (refl, refl))
 
 returns-2 : tie.Need-returns-2
 returns-2 c =
@@ -61,7 +61,7 @@ returns-2 c =
     written _ _ _ (c .enum-told .given .1) (d .write .ensures)
     (same (k .before .before .before .times-of .ensures) (k .before .before .escr-of .ensures) (k .before .rate-of .ensures)
     (k .byte-of .ensures) (s .before .byte-of2 .ensures) (s .crc-of .ensures))
-    (told (refl, refl))
+    (reports (refl, refl))
 
 returns-3 : tie.Need-returns-3
 returns-3 c =
@@ -71,7 +71,7 @@ returns-3 c =
     written _ _ _ (c .enum-told2 .given .1) (d .write .ensures)
     (same (k .before .before .before .times-of .ensures) (k .before .before .escr-of .ensures) (k .before .rate-of .ensures)
     (k .byte-of .ensures) (s .before .byte-of2 .ensures) (s .crc-of .ensures))
-    (told (refl, refl))
+    (reports (refl, refl))
 
 returns-4 : tie.Need-returns-4
 returns-4 c =
@@ -81,7 +81,7 @@ returns-4 c =
     written _ _ _ (c .enum-told3 .given .1) (d .write .ensures)
     (same (k .before .before .before .times-of .ensures) (k .before .before .escr-of .ensures) (k .before .rate-of .ensures)
     (k .byte-of .ensures) (s .before .byte-of2 .ensures) (s .crc-of .ensures))
-    (told (refl, refl))
+    (reports (refl, refl))
 
 pub cmv-write-spec : {M : Type 1} → statement M
 cmv-write-spec =

@@ -1,4 +1,4 @@
-use Rattle.host.proofs.Laws.{told-first, told-whole}
+use Rattle.host.proofs.Laws.{reports-first, reports-whole}
 use mathlib.Core.Path.{ap₂}
 use mathlib.Core.List.{_++_}
 use Rattle.host_whole.specs.Whole.{headerFields}
@@ -8,7 +8,7 @@ use Rattle.host_whole.proofs.heads.cmv_pes_header_fields.Tie as tie
 
 returns : tie.Need-returns
 unfolding headerFields
-returns c = told-first _ (c .before .cmv-pes-header-from-bytes .ensures) _ (c .if1 .taken)
+returns c = reports-first _ (c .before .cmv-pes-header-from-bytes .ensures) _ (c .if1 .taken)
 
 returns-2 : tie.Need-returns-2
 unfolding headerFields
@@ -17,7 +17,7 @@ returns-2 c =
     let n = k .before .before .before .before in
     let s = n .before .before .before in
     let t = s .before .before .before in
-    told-whole _ (t .before .cmv-pes-header-from-bytes .ensures) (t .if1 .left)
+    reports-whole _ (t .before .cmv-pes-header-from-bytes .ensures) (t .if1 .left)
     (ap₂ _++_ (s .cmv-pes-header-stream-id .ensures .numbers)
     (ap₂ _++_ (n .cmv-pes-header-pes-packet-length .ensures .numbers)
     (k .cmv-pes-header-contents .ensures .numbers)))

@@ -1,4 +1,4 @@
-use Rattle.host.proofs.Laws.{told-first, told-whole}
+use Rattle.host.proofs.Laws.{reports-first, reports-whole}
 use mathlib.Core.Path.{ap₂}
 use mathlib.Core.List.{_∷_, _++_}
 use Rattle.host_whole.specs.Whole.{packetFields}
@@ -8,7 +8,7 @@ use Rattle.host_whole.proofs.packets.cmv_packet_fields.Tie as tie
 
 returns : tie.Need-returns
 unfolding packetFields
-returns c = told-first _ (c .before .cmv-packet-try-new .ensures) _ (c .if1 .taken)
+returns c = reports-first _ (c .before .cmv-packet-try-new .ensures) _ (c .if1 .taken)
 
 returns-2 : tie.Need-returns-2
 unfolding packetFields
@@ -23,7 +23,7 @@ returns-2 c =
     let sta = pri .before .before in
     let err = sta .before .before in
     let one = err .before .before in
-    told-whole _ (one .before .cmv-packet-try-new .ensures) (one .if1 .left)
+    reports-whole _ (one .before .cmv-packet-try-new .ensures) (one .if1 .left)
     (ap₂ _++_ (err .cmv-packet-transport-error-indicator .ensures .numbers)
     (ap₂ _++_ (sta .cmv-packet-payload-unit-start-indicator .ensures .numbers)
     (ap₂ _++_ (pri .cmv-packet-transport-priority .ensures .numbers)

@@ -1,4 +1,4 @@
-use Rattle.host.proofs.Laws.{told-done, told-first, told-whole}
+use Rattle.host.proofs.Laws.{reports-done, reports-first, reports-whole}
 use mathlib.Core.Path.{ap₂}
 use mathlib.Core.List.{_++_}
 use Rattle.host_whole.specs.Whole.{contentsFields}
@@ -8,7 +8,7 @@ use Rattle.host_whole.proofs.parsed.cmv_pes_contents_fields.Tie as tie
 
 returns : tie.Need-returns
 unfolding contentsFields
-returns c = told-first _ (c .before .cmv-pes-contents-from-bytes .ensures) _ (c .if1 .taken)
+returns c = reports-first _ (c .before .cmv-pes-contents-from-bytes .ensures) _ (c .if1 .taken)
 
 returns-2 : tie.Need-returns-2
 unfolding contentsFields
@@ -24,8 +24,8 @@ returns-2 c =
     let t = k .before in
     let f = t .before in
     let b = f .before .before .cmv-pes-contents-from-bytes .ensures in
-    told-whole _ b (f .before .if1 .left)
-    (ap₂ _++_ (f .fixed .ensures (told-done b (f .before .if1 .left)))
+    reports-whole _ b (f .before .if1 .left)
+    (ap₂ _++_ (f .fixed .ensures (reports-done b (f .before .if1 .left)))
     (ap₂ _++_ (t .times .ensures)
     (ap₂ _++_ (k .clock .ensures)
     (ap₂ _++_ (e .rate .ensures)

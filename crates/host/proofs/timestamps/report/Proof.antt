@@ -1,26 +1,26 @@
-use Rattle.host.proofs.Laws.{told}
+use Rattle.host.proofs.Laws.{reports}
 use native.Mathlib.Omega.{arith}
 use mathlib.Core.Path.{refl, ap}
 use mathlib.Core.List.{[], _∷_}
 use Prim.Native.Nat.{ℕ}
 use borrow.Author.Needs.{needs}
-use Rattle.host.proofs.timestamps.tell.Statement.{statement}
-use Rattle.host.proofs.timestamps.tell.Tie as tie
+use Rattle.host.proofs.timestamps.report.Statement.{statement}
+use Rattle.host.proofs.timestamps.report.Tie as tie
 
 returns : tie.Need-returns
-returns c = rw (c .before .before .r .given .1) (told (refl, ap (λ (v : ℕ). v ∷ []) (c .value .ensures)))
+returns c = rw (c .before .before .r .given .1) (reports (refl, ap (λ (v : ℕ). v ∷ []) (c .value .ensures)))
 
 returns-2 : tie.Need-returns-2
-returns-2 c = rw (c .enum-told .given .1) (told (refl, refl))
+returns-2 c = rw (c .enum-told .given .1) (reports (refl, refl))
 
 returns-3 : tie.Need-returns-3
-returns-3 c = rw (c .before .r2 .given .1) (told (refl, refl))
+returns-3 c = rw (c .before .r2 .given .1) (reports (refl, refl))
 
 returns-4 : tie.Need-returns-4
-returns-4 c = rw (c .before .r3 .given .1) (told (omega arith, refl))
+returns-4 c = rw (c .before .r3 .given .1) (reports (omega arith, refl))
 
-pub tell-spec : {M : Type 1} → statement M
-tell-spec =
+pub report-spec : {M : Type 1} → statement M
+report-spec =
     tie.close
     (tie.spec
     (λ c. search needs)

@@ -1,0 +1,16 @@
+use Rattle.host.proofs.Laws.{reports}
+use mathlib.Core.Path.{refl}
+use borrow.Author.Needs.{needs}
+use Rattle.host.proofs.parsed.report_byte.Statement.{statement}
+use Rattle.host.proofs.parsed.report_byte.Tie as tie
+
+pub report-byte-spec : {M : Type 1} → statement M
+report-byte-spec =
+    tie.close
+    (tie.spec
+    (λ c. search needs)
+    (λ c. search needs)
+    (λ c. search needs)
+    (λ c κs. search needs)
+    (λ c. rw (c .before .r .given .1) (reports (refl, refl)))
+    (λ c. rw (c .before .before .r2 .given .1) (c .refused .ensures _)))
