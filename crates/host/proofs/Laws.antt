@@ -7,38 +7,103 @@ use mathlib.Core.Logic.{_↔_}
 use Prim.Native.Nat.{ℕ, _+_, _*_}
 use native.Mathlib.Omega.{arith}
 use lib.Dec.{eqb}
+use borrow.Author.Needs.{needs}
 use borrow.Author.Tests.{eq-eqb, ne-eqb, eqb-true}
 use lib.ListN.{length, getD}
 use mir.Val.{boolByte}
 use Rattle.bits.specs.Answer.{Answer, answer, pick, andThen, truth, unless}
 use Rattle.bits.proofs.Checks.{unless-map}
 use Rattle.bits.proofs.Tests.{one-truth}
-use Rattle.timestamp.specs.Stamp.{makeStamp, likelyWrapped}
+use Rattle.timestamp.specs.declared.Timestamp.{Timestamp}
+use Rattle.timestamp.specs.declared.TimestampMade.{TimestampMade}
+use Rattle.timestamp.specs.Stamp as stamp
 use Rattle.timestamp.proofs.Laws.{made-value}
 use Rattle.control.specs.declared.ClockRef.{ClockRef}
-use Rattle.control.specs.Clock.{clock, clockValues, makeClock}
-use Rattle.control.proofs.Laws.{clock-made, counter-made}
-use Rattle.control.specs.Control.{makeCounter, follows, isScrambled, scrambling, readScheme}
+use Rattle.control.specs.declared.ClockMade.{ClockMade}
+use Rattle.control.specs.declared.ClockNumber.{ClockNumber}
+use Rattle.control.specs.declared.ContinuityCounter.{ContinuityCounter}
+use Rattle.control.specs.declared.CounterMade.{CounterMade}
+use Rattle.control.specs.declared.Scheme.{Scheme}
+use Rattle.control.specs.Clock.{clock, clockValues, clockNumber, givenMade, givenNumber, makeClock}
+use Rattle.control.proofs.Laws.{clock-made, counter-made, number-refused, number-of}
+use Rattle.control.specs.Control.{givenCounter, givenScheme, makeCounter, follows, isScrambled, scrambling, readScheme}
+use Rattle.pes.specs.declared.StreamId.{StreamId}
+use Rattle.pes.specs.Stream.{streamValues}
 use Rattle.packet.specs.Packet.{notPacket, readByteFour}
+use Rattle.contents.specs.declared.Refusal.{Refusal}
+use Rattle.contents.specs.declared.DsmTrickMode.{DsmTrickMode}
+use Rattle.contents.specs.declared.EsRate.{EsRate}
+use Rattle.contents.specs.declared.EsRateMade.{EsRateMade}
+use Rattle.contents.specs.declared.EsRateNumber.{EsRateNumber}
+use Rattle.contents.specs.Contents.{makeRate, rateBytes}
+use Rattle.contents.specs.Given.{refusal, trickValues, givenRateMade, givenRateNumber}
+use Rattle.contents.proofs.Laws.{rate-refused, rate-kept}
 use Rattle.host.specs.Clocks.{samePair, sameAnswer, followsAnswer, scramblingAnswer}
 use Rattle.host.specs.Stamps.{wrapAnswer}
 use Rattle.host.specs.Reports.{Reports, word, filled, outs}
 
-pub reports : {a : Answer} {w : ℕ} {lent left : List ℕ} → (w ≡ word a) × (left ≡ outs a lent) → Reports a w lent left
-reports h = record { number = h .0; numbers = h .1 }
+module _ {a : Answer} {w : ℕ} {lent left : List ℕ} where
+  pub reports : w ≡ word a → left ≡ outs a lent → Reports a w lent left
+  reports n v = record { number = n; numbers = v }
 
--- what reports an answer reports one that is equal to it
-pub reports-as : {a b : Answer} {w : ℕ} {lent left : List ℕ} → a ≡ b → Reports b w lent left → Reports a w lent left
-reports-as e t = rw e t
+  -- what reports an answer reports one that is equal to it
+  pub reports-as : {b : Answer} → b ≡ a → Reports b w lent left → Reports a w lent left
+  reports-as e t = rw (← e) t
 
--- the answer that a function ensures is reported where that of the case is
-pub reports-of : {R : Type 0} {r k : R} {a : Answer} {w : ℕ} {lent left : List ℕ} (given : R → Answer) → r ≡ k → given r ≡ a → Reports (given k) w lent left → Reports a w lent left
-reports-of given f e t = rw (← e, f) t
+-- of what a call returned, from the case that it is
+module _ {R : Type 0} (given : R → Answer) {r k : R} where
+  pub given-case : {a : Answer} → given r ≡ a → r ≡ k → given k ≡ a
+  given-case e f = ap given (sym f) ∙ e
+
+  module _ {w : ℕ} {lent left : List ℕ} where
+    pub reports-case : r ≡ k → Reports (given k) w lent left → Reports (given r) w lent left
+    reports-case f t = rw f t
+
+    -- the answer that the call ensures
+    pub reports-of : {a : Answer} → given r ≡ a → r ≡ k → Reports (given k) w lent left → Reports a w lent left
+    reports-of e f t = reports-as (given-case e f) t
+
+    -- that answer, or one behind it
+    pub reports-before : (p q : Answer) → given r ≡ p → r ≡ k → Reports (andThen (given k) q) w lent left → Reports (andThen p q) w lent left
+    reports-before p q e f t = rw (← e, f) t
+
+    -- one behind two calls
+    pub reports-behind : {m n : R} (p q a : Answer) → given r ≡ p → r ≡ k → given m ≡ q → m ≡ n
+        → Reports (andThen (given k) (andThen (given n) a)) w lent left → Reports (andThen p (andThen q a)) w lent left
+    reports-behind p q a e f g h t = rw (← e, f, ← g, h) t
+
+-- an answer to a number that a call keeps
+pub reports-at : (f : ℕ → Answer) {m n w : ℕ} {lent left : List ℕ} → m ≡ n → Reports (f m) w lent left → Reports (f n) w lent left
+reports-at f e t = rw (← e) t
+
+-- out numbers that are those of the answer, one by one
+pub truth-as : (b t : Bool) → b ≡ t → boolByte b ≡ truth t
+truth-as b t e = ap truth e
+
+pub number-as : {m n : ℕ} {ms ns : List ℕ} → m ≡ n → ms ≡ ns → m ∷ ms ≡ n ∷ ns
+number-as e f = ap₂ _∷_ e f
+
+pub last-as : {a b c m n : ℕ} → m ≡ n → a ∷ b ∷ c ∷ m ∷ [] ≡ a ∷ b ∷ c ∷ n ∷ []
+last-as {a} {b} {c} e = ap (λ (z : ℕ). a ∷ b ∷ c ∷ z ∷ []) e
+
+pub four-as : {k a b c d p q r s : ℕ} → a ≡ p → b ≡ q → c ≡ r → d ≡ s → k ∷ a ∷ b ∷ c ∷ d ∷ [] ≡ k ∷ p ∷ q ∷ r ∷ s ∷ []
+four-as e f g h = rw (e, f, g, h)
+
+-- a marker bit that is not set, by its number
+pub marker-reports : {b w : ℕ} {lent : List ℕ} → w ≡ 12 + 256 * b → Reports (answer 12 (b ∷ [])) w lent lent
+marker-reports e = reports (omega arith) refl
+
+-- a refusal of the contents is reported whatever numbers are lent
+pub refused-any : {w : ℕ} {lent : List ℕ} (r : Refusal) → Reports (refusal r) w [] [] → Reports (refusal r) w lent lent
+refused-any Refusal.ShortContents t = reports (t .number) refl
+refused-any Refusal.BadCheckBits t = reports (t .number) refl
+refused-any Refusal.HeaderPastBuffer t = reports (t .number) refl
+refused-any Refusal.FieldsPastHeader t = reports (t .number) refl
 
 -- a truth value, of two things that were both made of numbers
 both-reports : {p q : Answer} (vs ws : List ℕ) (l : ℕ) (b t : Bool) → answer 0 vs ≡ p → answer 0 ws ≡ q → b ≡ t
     → Reports (andThen p (andThen q (answer 0 (truth t ∷ [])))) 0 (l ∷ []) (boolByte b ∷ [])
-both-reports vs ws l b t p q e = rw (← p, ← q) (reports (refl, ap (λ (n : ℕ). n ∷ []) (ap truth e)))
+both-reports vs ws l b t p q e = rw (← p, ← q) (reports refl (ap (λ (n : ℕ). n ∷ []) (ap truth e)))
 
 -- ---- answers that stand behind a first one
 
@@ -69,18 +134,21 @@ module _ {a : Answer} {w : ℕ} (lent : List ℕ) (t : Reports a w [] []) where
   pub reports-first : (b : Answer) → (w ≡ 0 → ⊥) → Reports (andThen a b) w lent lent
   reports-first b h =
       let e : eqb (a .number) 0 ≡ false = ne-eqb (a .number) 0 (word-refused a (λ z. h (t .number ∙ z))) in
-      rw e (reports (t .number, simp e))
+      rw e (reports (t .number) (simp e))
 
   pub reports-whole : {left vs : List ℕ} → w ≡ 0 → left ≡ vs → length lent ≡ length left → Reports (andThen a (answer 0 vs)) 0 lent left
   reports-whole {left} {vs} h e l =
-      rw (eq-eqb (a .number) 0 (reports-done t h)) (reports (refl, e ∙ sym (filled-all lent vs (l ∙ ap length e))))
+      rw (eq-eqb (a .number) 0 (reports-done t h)) (reports refl (e ∙ sym (filled-all lent vs (l ∙ ap length e))))
 
 -- ---- timestamps
 
-pub wrap-reports : (v s x y l : ℕ) (b : Bool) → answer 0 (x ∷ []) ≡ makeStamp v → answer 0 (y ∷ []) ≡ makeStamp s → b ≡ likelyWrapped x y
+pub wrap-reports : (v s l : ℕ) (b : Bool) (m n : TimestampMade) (x y : Timestamp) → stamp.givenMade m ≡ stamp.makeStamp v → m ≡ TimestampMade.Done x
+    → stamp.givenMade n ≡ stamp.makeStamp s → n ≡ TimestampMade.Done y → b ≡ stamp.likelyWrapped (x .val) (y .val)
     → Reports (wrapAnswer v s) 0 (l ∷ []) (boolByte b ∷ [])
-wrap-reports v s x y l b p q e =
-    both-reports (x ∷ []) (y ∷ []) l b (likelyWrapped v s) p q (rw (made-value v x p, made-value s y q) at e)
+wrap-reports v s l b m n x y p e q f h =
+    let i = given-case stamp.givenMade p e in
+    let j = given-case stamp.givenMade q f in
+    both-reports (x .val ∷ []) (y .val ∷ []) l b (stamp.likelyWrapped v s) i j (rw (made-value v (x .val) i, made-value s (y .val) j) at h)
 
 -- ---- clock references, counters and the fourth byte
 
@@ -94,16 +162,27 @@ pair-same b e b′ e′ =
     go true h k = ap₂ clock (eqb-true b b′ h) (eqb-true e e′ k)
     go false h k = let z : _≡_ {A = ℕ} 0 1 = ap truth k in absurd (omega arith)
 
-pub same-reports : (b e b′ e′ l : ℕ) (c d : ClockRef) (s : Bool) → answer 0 (clockValues c) ≡ makeClock b e → answer 0 (clockValues d) ≡ makeClock b′ e′
-    → (s ≡ true) ↔ (c ≡ d) → Reports (sameAnswer b e b′ e′) 0 (l ∷ []) (boolByte s ∷ [])
-same-reports b e b′ e′ l c d s p q h =
-    both-reports (clockValues c) (clockValues d) l s (samePair b e b′ e′) p q
-    (one-truth (clock b e ≡ clock b′ e′) s (samePair b e b′ e′) (rw (clock-made b e c p, clock-made b′ e′ d q) at h) (pair-same b e b′ e′))
+pub same-reports : (b e b′ e′ l : ℕ) (s : Bool) (m n : ClockMade) (c d : ClockRef) → givenMade m ≡ makeClock b e → m ≡ ClockMade.Done c
+    → givenMade n ≡ makeClock b′ e′ → n ≡ ClockMade.Done d → (s ≡ true) ↔ (c ≡ d) → Reports (sameAnswer b e b′ e′) 0 (l ∷ []) (boolByte s ∷ [])
+same-reports b e b′ e′ l s m n c d p i q j h =
+    let x = given-case givenMade p i in
+    let y = given-case givenMade q j in
+    both-reports (clockValues c) (clockValues d) l s (samePair b e b′ e′) x y
+    (one-truth (clock b e ≡ clock b′ e′) s (samePair b e b′ e′) (rw (clock-made b e c x, clock-made b′ e′ d y) at h) (pair-same b e b′ e′))
 
-pub follows-reports : (a b x y l : ℕ) (f : Bool) → answer 0 (x ∷ []) ≡ makeCounter a → answer 0 (y ∷ []) ≡ makeCounter b → f ≡ follows x y
-    → Reports (followsAnswer a b) 0 (l ∷ []) (boolByte f ∷ [])
-follows-reports a b x y l f p q h =
-    both-reports (x ∷ []) (y ∷ []) l f (follows a b) p q (rw (counter-made a x p, counter-made b y q) at h)
+pub number-none : (b e : ℕ) {lent : List ℕ} (m : ClockMade) → givenMade m ≡ makeClock b e → m ≡ ClockMade.OutOfRange → Reports (clockNumber b e) 14 lent lent
+number-none b e m p i = rw (number-refused b e (given-case givenMade p i)) (reports refl refl)
+
+pub number-some : (b e : ℕ) {w : ℕ} {lent left : List ℕ} (m : ClockMade) (c : ClockRef) (r k : ClockNumber) → givenMade m ≡ makeClock b e → m ≡ ClockMade.Done c
+    → givenNumber r ≡ clockNumber (c .base) (c .extension) → r ≡ k → Reports (givenNumber k) w lent left → Reports (clockNumber b e) w lent left
+number-some b e m c r k p i q j t = reports-of givenNumber (q ∙ number-of b e c (given-case givenMade p i)) j t
+
+pub follows-reports : (a b l : ℕ) (f : Bool) (m n : CounterMade) (x y : ContinuityCounter) → givenCounter m ≡ makeCounter a → m ≡ CounterMade.Done x
+    → givenCounter n ≡ makeCounter b → n ≡ CounterMade.Done y → f ≡ follows (x .val) (y .val) → Reports (followsAnswer a b) 0 (l ∷ []) (boolByte f ∷ [])
+follows-reports a b l f m n x y p e q g h =
+    let i = given-case givenCounter p e in
+    let j = given-case givenCounter q g in
+    both-reports (x .val ∷ []) (y .val ∷ []) l f (follows a b) i j (rw (counter-made a (x .val) i, counter-made b (y .val) j) at h)
 
 -- the number of a scheme, 0 where there is none: the value after the kind
 scheme-is : (b : ℕ) → getD (readScheme b .values) 1 0 ≡ scrambling b
@@ -114,9 +193,10 @@ scheme-is b = go (scrambling b) (eqb (scrambling b) 0) refl
     go n true e = sym (eqb-true n 0 e)
     go n false e = refl
 
-pub scrambling-reports : (b l m : ℕ) (t : Bool) (vs : List ℕ) → t ≡ isScrambled b → answer 0 vs ≡ readScheme b
-    → Reports (scramblingAnswer b) 0 (l ∷ m ∷ []) (boolByte t ∷ getD vs 1 0 ∷ [])
-scrambling-reports b l m t vs h k = reports (refl, rw (h, ap (λ (a : Answer). getD (a .values) 1 0) k ∙ scheme-is b))
+pub scrambling-reports : (b l m n : ℕ) (t : Bool) (s k : Scheme) → t ≡ isScrambled b → givenScheme s ≡ readScheme b → s ≡ k
+    → n ≡ getD (givenScheme k .values) 1 0 → Reports (scramblingAnswer b) 0 (l ∷ m ∷ []) (boolByte t ∷ n ∷ [])
+scrambling-reports b l m n t s k h p e q =
+    reports refl (number-as (ap truth h) (number-as (q ∙ ap (λ (a : Answer). getD (a .values) 1 0) (given-case givenScheme p e) ∙ scheme-is b) refl))
 
 -- ---- packets
 
@@ -128,6 +208,26 @@ four-through : (f : ℕ → Answer) (xs : List ℕ) → through f (readByteFour 
 unfolding notPacket
 four-through f xs = unless-map (notPacket xs) (through f) (λ n h. rw (ne-eqb n 0 (omega arith))) (omega arith) _
 
-pub four-reports : {R : Type 0} {r k : R} {w : ℕ} {lent left : List ℕ} (xs : List ℕ) (f : ℕ → Answer) (given : R → Answer) → r ≡ k → given r ≡ readByteFour xs
+pub four-reports : {R : Type 0} (f : ℕ → Answer) (given : R → Answer) (xs : List ℕ) {r k : R} {w : ℕ} {lent left : List ℕ} → given r ≡ readByteFour xs → r ≡ k
     → Reports (through f (given k)) w lent left → Reports (unless (notPacket xs) (f (getD xs 3 0))) w lent left
-four-reports xs f given e p t = reports-of (λ k. through f (given k)) e (ap (through f) p ∙ four-through f xs) t
+four-reports f given xs p e t = reports-of (λ k. through f (given k)) (ap (through f) p ∙ four-through f xs) e t
+
+-- ---- heads and contents
+
+pub id-values : (s k : StreamId) (vs : List ℕ) → s ≡ k → vs ≡ streamValues k → vs ≡ streamValues s
+id-values s k vs e h = rw e h
+
+pub trick-values : (t k : DsmTrickMode) (vs : List ℕ) → t ≡ k → vs ≡ filled (0 ∷ 0 ∷ 0 ∷ 0 ∷ []) (trickValues k) → vs ≡ filled (0 ∷ 0 ∷ 0 ∷ 0 ∷ []) (trickValues t)
+trick-values t k vs e h = rw e h
+
+pub id-reports : {vs : List ℕ} {a b l m : ℕ} → a ∷ b ∷ [] ≡ vs → Reports (answer 0 vs) 0 (l ∷ m ∷ []) (a ∷ b ∷ [])
+id-reports e = rw (← e) (reports refl refl)
+
+pub rate-none : (n : ℕ) {lent : List ℕ} (m : EsRateMade) → givenRateMade m ≡ makeRate n → m ≡ EsRateMade.OutOfRange → Reports (rateBytes n) 14 lent lent
+rate-none n m p i = rw (rate-refused n (given-case givenRateMade p i)) (reports refl refl)
+
+pub rate-some : (n : ℕ) {w : ℕ} {lent left : List ℕ} (m : EsRateMade) (e : EsRate) (r k : EsRateNumber) → givenRateMade m ≡ makeRate n → m ≡ EsRateMade.Done e
+    → givenRateNumber r ≡ rateBytes (e .0) → r ≡ k → Reports (givenRateNumber k) w lent left → Reports (rateBytes n) w lent left
+rate-some n m e r k p i q j t = reports-of givenRateNumber (q ∙ rate-kept n (e .0) (given-case givenRateMade p i)) j t
+
+pub ruleset host-laws = (reports, reports-as, number-as, last-as, four-as, truth-as, marker-reports, refused-any, wrap-reports, same-reports, number-none, number-some, follows-reports, scrambling-reports, id-values, id-reports, trick-values, rate-none, rate-some, needs)

@@ -1,7 +1,6 @@
 // What follows the head of a PES packet that carries parsed contents.
 ghost use mathlib.Core.Path.{_≡_};
-ghost use mathlib.Core.List.{List, [], _∷_};
-ghost use Prim.Native.Nat.{ℕ};
+ghost use mathlib.Core.List.{[], _∷_};
 ghost use lib.ListN.{getD};
 ghost use Rattle.contents.specs.Contents.{scramblingBit, priorityBit, alignmentBit, copyrightBit, originalBit, flagsBit, dataLengthBit};
 ghost use Rattle.contents.specs.Contents.{readContents, readFixed, readPtsDts, readEscr, readEsRate, readCopyInfo, readCrc, readExtension};
@@ -45,9 +44,9 @@ use contents::Refusal;
 use contents::StampRead;
 use contents::TrickRead;
 
-// A refusal is reported whatever numbers are lent.
+// A refusal leaves every number as it was lent.
 fn refused(r: Refusal) -> u32
-    ensures { λ w. ⌜ ((lent : List ℕ) → Reports (refusal r) w lent lent) ⌝ }
+    ensures { λ w. ⌜ Reports (refusal r) w [] [] ⌝ }
 {
     match r {
         Refusal::ShortContents => SHORT_CONTENTS,

@@ -1,28 +1,10 @@
-use Rattle.host.proofs.Laws.{reports, reports-of}
-use mathlib.Core.Path.{refl}
-use native.Mathlib.Omega.{arith}
+use Rattle.host.proofs.Laws.{reports-of, host-laws}
 use Rattle.adaptation.specs.Extension.{givenSplice}
-use borrow.Author.Needs.{needs}
-use Rattle.host.proofs.fields.cmv_adaptation_extension_seamless_splice.Statement.{
-  statement,
-}
+use Rattle.host.proofs.fields.cmv_adaptation_extension_seamless_splice.Statement.{statement}
 use Rattle.host.proofs.fields.cmv_adaptation_extension_seamless_splice.Tie as tie
 
 pub cmv-adaptation-extension-seamless-splice-spec : {M : Type 1} → statement M
-cmv-adaptation-extension-seamless-splice-spec =
-    tie.close
-    (tie.spec
-    (λ c κs. search needs)
-    (λ c. search needs)
-    (λ c. search needs)
-    (λ c κs. search needs)
-    (λ c. search needs)
-    (λ c. search needs)
-    (λ c. search needs)
-    (λ c. search needs)
-    (λ c. search needs)
-    (λ c. search needs)
-    (λ c. reports-of givenSplice (c .before .before .before .s .given .1) (c .before .before .before .before .before .seamless-splice .ensures) (reports (refl, simp (c .value .ensures))))
-    (λ c. reports-of givenSplice (c .enum-told .given .1) (c .before .before .seamless-splice .ensures) (reports (refl, refl)))
-    (λ c. reports-of givenSplice (c .enum-told2 .given .1) (c .before .before .seamless-splice .ensures) (reports (refl, refl)))
-    (λ c. reports-of givenSplice (c .before .bit-number .given .1) (c .before .before .before .seamless-splice .ensures) (reports (omega arith, refl))))
+cmv-adaptation-extension-seamless-splice-spec {M} = let answers = tie.spec {M = M} (λ c κs. search host-laws) (λ c. search host-laws) (λ c. search host-laws)
+    (λ c κs. search host-laws) (λ c. search host-laws) (λ c. search host-laws) (λ c. search host-laws) (λ c. search host-laws) (λ c. search host-laws) (λ c. search host-laws)
+    (λ c. search (reports-of givenSplice, host-laws)) (λ c. search (reports-of givenSplice, host-laws)) (λ c. search (reports-of givenSplice, host-laws))
+    (λ c. search (reports-of givenSplice, host-laws)) in tie.close answers

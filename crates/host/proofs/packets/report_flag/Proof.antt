@@ -1,17 +1,8 @@
-use Rattle.host.proofs.Laws.{reports}
-use mathlib.Core.Path.{refl}
-use borrow.Author.Needs.{needs}
+use Rattle.host.proofs.Laws.{reports-case, host-laws}
+use Rattle.packet.specs.Packet.{givenFlag}
 use Rattle.host.proofs.packets.report_flag.Statement.{statement}
 use Rattle.host.proofs.packets.report_flag.Tie as tie
 
 pub report-flag-spec : {M : Type 1} → statement M
-report-flag-spec =
-    tie.close
-    (tie.spec
-    (λ c. search needs)
-    (λ c. search needs)
-    (λ c. search needs)
-    (λ c. search needs)
-    (λ c. rw (c .before .r .given .1) (reports (refl, refl)))
-    (λ c. rw (c .enum-told .given .1) (reports (refl, refl)))
-    (λ c. rw (c .enum-told2 .given .1) (reports (refl, refl))))
+report-flag-spec {M} = let answers = tie.spec {M = M} (λ c. search host-laws) (λ c. search host-laws) (λ c. search host-laws) (λ c. search host-laws)
+    (λ c. search (reports-case givenFlag, host-laws)) (λ c. search (reports-case givenFlag, host-laws)) (λ c. search (reports-case givenFlag, host-laws)) in tie.close answers

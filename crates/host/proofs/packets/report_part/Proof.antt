@@ -1,18 +1,9 @@
-use Rattle.host.proofs.Laws.{reports}
-use mathlib.Core.Path.{refl}
-use borrow.Author.Needs.{needs}
+use Rattle.host.proofs.Laws.{reports-case, host-laws}
+use Rattle.packet.specs.Packet.{givenPart}
 use Rattle.host.proofs.packets.report_part.Statement.{statement}
 use Rattle.host.proofs.packets.report_part.Tie as tie
 
 pub report-part-spec : {M : Type 1} → statement M
-report-part-spec =
-    tie.close
-    (tie.spec
-    (λ c. search needs)
-    (λ c. search needs)
-    (λ c. search needs)
-    (λ c. search needs)
-    (λ c. rw (c .before .r .given .1) (reports (refl, refl)))
-    (λ c. rw (c .enum-told .given .1) (reports (refl, refl)))
-    (λ c. rw (c .enum-told2 .given .1) (reports (refl, refl)))
-    (λ c. rw (c .enum-told3 .given .1) (reports (refl, refl))))
+report-part-spec {M} = let answers = tie.spec {M = M} (λ c. search host-laws) (λ c. search host-laws) (λ c. search host-laws) (λ c. search host-laws)
+    (λ c. search (reports-case givenPart, host-laws)) (λ c. search (reports-case givenPart, host-laws)) (λ c. search (reports-case givenPart, host-laws))
+    (λ c. search (reports-case givenPart, host-laws)) in tie.close answers

@@ -1,18 +1,8 @@
-use Rattle.host.proofs.Laws.{reports, reports-of}
-use mathlib.Core.Path.{refl}
+use Rattle.host.proofs.Laws.{reports-of, host-laws}
 use Rattle.contents.specs.Given.{givenCopyright}
-use borrow.Author.Needs.{needs}
 use Rattle.host.proofs.parsed.cmv_pes_contents_copyright.Statement.{statement}
 use Rattle.host.proofs.parsed.cmv_pes_contents_copyright.Tie as tie
 
 pub cmv-pes-contents-copyright-spec : {M : Type 1} → statement M
-cmv-pes-contents-copyright-spec =
-    tie.close
-    (tie.spec
-    (λ c κs. search needs)
-    (λ c. search needs)
-    (λ c κs. search needs)
-    (λ c. search needs)
-    (λ c κs. search needs)
-    (λ c. reports-of givenCopyright (c .before .before .s .given .1) (c .before .before .before .before .copyright .ensures) (reports (refl, simp (c .undefined .ensures))))
-    (λ c. reports-of givenCopyright (c .before .before .r .given .1) (c .before .before .before .before .copyright .ensures) (c .refused .ensures _)))
+cmv-pes-contents-copyright-spec {M} = let answers = tie.spec {M = M} (λ c κs. search host-laws) (λ c. search host-laws) (λ c κs. search host-laws) (λ c. search host-laws)
+    (λ c κs. search host-laws) (λ c. search (reports-of givenCopyright, host-laws)) (λ c. search (reports-of givenCopyright, host-laws)) in tie.close answers

@@ -1,16 +1,8 @@
-use Rattle.host.proofs.Laws.{reports}
-use mathlib.Core.Path.{refl}
-use borrow.Author.Needs.{needs}
+use Rattle.host.proofs.Laws.{reports-case, host-laws}
+use Rattle.contents.specs.Given.{givenByte}
 use Rattle.host.proofs.parsed.report_byte.Statement.{statement}
 use Rattle.host.proofs.parsed.report_byte.Tie as tie
 
 pub report-byte-spec : {M : Type 1} → statement M
-report-byte-spec =
-    tie.close
-    (tie.spec
-    (λ c. search needs)
-    (λ c. search needs)
-    (λ c. search needs)
-    (λ c κs. search needs)
-    (λ c. rw (c .before .r .given .1) (reports (refl, refl)))
-    (λ c. rw (c .before .before .r2 .given .1) (c .refused .ensures _)))
+report-byte-spec {M} = let answers = tie.spec {M = M} (λ c. search host-laws) (λ c. search host-laws) (λ c. search host-laws) (λ c κs. search host-laws)
+    (λ c. search (reports-case givenByte, host-laws)) (λ c. search (reports-case givenByte, host-laws)) in tie.close answers

@@ -1,12 +1,6 @@
-use Rattle.host.proofs.Laws.{reports-as}
-use mathlib.Core.Path.{sym}
-use borrow.Author.Needs.{needs}
+use Rattle.host.proofs.Laws.{host-laws}
 use Rattle.host.proofs.timestamps.cmv_timestamp_from_pts_bytes.Statement.{statement}
 use Rattle.host.proofs.timestamps.cmv_timestamp_from_pts_bytes.Tie as tie
 
-returns : tie.Need-returns
-returns c = reports-as (sym (c .before .before .from-pts-bytes .ensures)) (c .report .ensures)
-
 pub cmv-timestamp-from-pts-bytes-spec : {M : Type 1} → statement M
-cmv-timestamp-from-pts-bytes-spec =
-    tie.close (tie.spec (λ c κs. search needs) (λ c κs. search needs) returns)
+cmv-timestamp-from-pts-bytes-spec {M} = let answers = tie.spec {M = M} (λ c κs. search host-laws) (λ c κs. search host-laws) (λ c. search host-laws) in tie.close answers
