@@ -79,7 +79,7 @@ impl Writer {
 fn tables(recording: &[u8], with_units: &BTreeSet<u16>) -> Vec<u8> {
     let mut seen = BTreeSet::new();
     let packets = recording.chunks_exact(Packet::SIZE).filter(|bytes| {
-        Packet::try_new(bytes).is_ok_and(|packet| {
+        Packet::try_new(bytes).map_or(false, |packet| {
             let pid = u16::from(packet.pid());
             !with_units.contains(&pid) && seen.insert(pid)
         })

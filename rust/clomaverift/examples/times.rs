@@ -34,9 +34,12 @@ fn print(found: Found<'_>) {
 }
 
 fn main() -> ExitCode {
-    let Some(file) = std::env::args().nth(1) else {
-        eprintln!("usage: times FILE");
-        return ExitCode::from(2);
+    let file = match std::env::args().nth(1) {
+        Some(file) => file,
+        None => {
+            eprintln!("usage: times FILE");
+            return ExitCode::from(2);
+        }
     };
     match std::fs::read(&file) {
         Ok(recording) => {

@@ -303,9 +303,10 @@ impl Stream {
     }
 
     fn end(&mut self, packet: &[u8], ended: bool, tell: &mut impl FnMut(Found<'_>)) {
-        let Some(Opened { index, stream_id, length, times }) = self.unit.take() else { return };
-        let payload = sure(self.gathering.bytes(packet, &self.store));
-        tell(Found::Unit(FoundUnit { pid: self.pid, index, stream_id, length, times, payload, ended }));
+        if let Some(Opened { index, stream_id, length, times }) = self.unit.take() {
+            let payload = sure(self.gathering.bytes(packet, &self.store));
+            tell(Found::Unit(FoundUnit { pid: self.pid, index, stream_id, length, times, payload, ended }));
+        }
     }
 
     fn finish(&mut self, tell: &mut impl FnMut(Found<'_>)) {

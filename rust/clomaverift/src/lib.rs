@@ -26,8 +26,11 @@
 //! # Linking
 //!
 //! The library is a few archives for x86-64, `libhost.a` among them. The build script takes them from the folder that the environment
-//! variable `CLOMAVERIFT_LIBRARY` names, or else from the repository's `target/staticlib`, where `rt staticlib host` writes `libhost.a`,
-//! and so the others. Where one is not there, it says which.
+//! variable `CLOMAVERIFT_LIBRARY` names or, if it is unset or empty, from the repository's `target/staticlib`, where `rt staticlib host`
+//! writes `libhost.a`, and so the others. If an archive, a linker for x86-64 or the target's standard library is missing, it says which.
+//!
+//! On a machine that is not x86-64, build for `x86_64-unknown-linux-gnu`: the crate's `.cargo/config.toml` names a linker and a runner
+//! for it, and a project that depends on this crate needs a copy of that `.cargo` folder.
 //!
 //! # Example
 //!
@@ -42,8 +45,10 @@
 //! let packet = Packet::try_new(&bytes)?;
 //! assert_eq!(u16::from(packet.pid()), 0x100);
 //! let header = PesHeader::from_bytes(packet.payload().unwrap())?;
-//! let PesContents::Parsed(contents) = header.contents() else { panic!("a bare payload") };
-//! assert_eq!(contents?.pts_dts()?, PtsDts::PtsOnly(Timestamp::from_u64(90_000)));
+//! match header.contents() {
+//!     PesContents::Parsed(contents) => assert_eq!(contents?.pts_dts()?, PtsDts::PtsOnly(Timestamp::from_u64(90_000))),
+//!     PesContents::Payload(_) => panic!("a bare payload"),
+//! }
 //! # Ok::<(), clomaverift::Error>(())
 //! ```
 

@@ -146,7 +146,7 @@ impl Unit {
 
     /// The unit's packets, in memory of their own.
     pub fn packets(&self, payload: &[u8]) -> Result<Vec<u8>, Error> {
-        let most = (LONGEST_HEADER + payload.len()).div_ceil(CARRIED);
+        let most = (LONGEST_HEADER + payload.len() + CARRIED - 1) / CARRIED;
         let mut out = vec![0; most * Packet::SIZE];
         let count = write(self, payload, &mut out)?;
         out.truncate(count * Packet::SIZE);
@@ -218,7 +218,10 @@ mod tests {
         let header = PesHeader::from_bytes(first.payload().unwrap()).unwrap();
         assert_eq!(header.stream_id().number(), 0xE5);
         assert_eq!(header.pes_packet_length(), PesLength::Bounded((3 + 23 + 256).try_into().unwrap()));
-        let PesContents::Parsed(Ok(contents)) = header.contents() else { panic!("no contents") };
+        let contents = match header.contents() {
+            PesContents::Parsed(contents) => contents.unwrap(),
+            PesContents::Payload(_) => panic!("a bare payload"),
+        };
         assert_eq!(contents.pes_priority(), 1);
         assert_eq!(contents.data_alignment_indicator(), DataAlignment::Aligned);
         assert_eq!(contents.copyright(), Copyright::Undefined);

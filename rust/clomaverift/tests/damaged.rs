@@ -68,8 +68,10 @@ fn plain(recording: &[u8]) -> (Vec<Told>, Vec<Told>) {
     let mut open: BTreeMap<Pid, Told> = BTreeMap::new();
     let mut ended = Vec::new();
     for (index, bytes) in recording.chunks(Packet::SIZE).enumerate() {
-        let Ok(packet) = Packet::try_new(bytes) else { continue };
-        let pid = packet.pid();
+        let pid = match Packet::try_new(bytes) {
+            Ok(packet) => packet.pid(),
+            Err(_) => continue,
+        };
         if pid == Pid::STUFFING {
             continue;
         }

@@ -68,7 +68,10 @@ fn packet_fields(bytes: &[u8]) -> PacketFields<'_> {
 
 /// A header's, where it is accepted.
 fn header_fields(bytes: &[u8]) -> Option<PesFields<'_>> {
-    let PesContents::Parsed(Ok(contents)) = PesHeader::from_bytes(bytes).unwrap().contents() else { return None };
+    let contents = match PesHeader::from_bytes(bytes).unwrap().contents() {
+        PesContents::Parsed(contents) => contents.ok()?,
+        PesContents::Payload(_) => return None,
+    };
     let fields = contents.fields();
     assert_eq!(fields, contents_singly(&contents));
     Some(fields)

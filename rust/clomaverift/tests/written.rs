@@ -1,7 +1,8 @@
 //! Units of random fields: what is written is read back, from as few packets as can be.
 
 use clomaverift::{
-    ClockRef, Demux, Found, FoundUnit, Packet, PesContents, PesHeader, PesParsedContents, Times, Timestamp, Unit,
+    ClockRef, Demux, Found, FoundUnit, Packet, PesContents, PesHeader, PesParsedContents, PtsDts, Times, Timestamp,
+    Unit,
 };
 
 const UNITS: u64 = 2_000;
@@ -70,7 +71,10 @@ fn data_bytes(unit: &Unit) -> usize {
 fn read_back(packets: &[u8]) -> Unit {
     let packet = Packet::try_new(&packets[..Packet::SIZE]).unwrap();
     let header = PesHeader::from_bytes(packet.payload().unwrap()).unwrap();
-    let PesContents::Parsed(Ok(contents)) = header.contents() else { panic!("no contents") };
+    let contents = match header.contents() {
+        PesContents::Parsed(contents) => contents.unwrap(),
+        PesContents::Payload(_) => panic!("a bare payload"),
+    };
     let clock = |clock: ClockRef| (clock.base(), clock.extension());
     let bit = |number: u8| contents_bit(&packet, number);
     Unit {
@@ -97,9 +101,12 @@ fn contents_bit(packet: &Packet<'_>, number: u8) -> bool {
 }
 
 fn times_of(contents: &PesParsedContents<'_>) -> Times {
-    let Ok(times) = contents.pts_dts() else { return Times::Untimed };
-    let pts = times.pts().unwrap().value();
-    times.dts().map_or(Times::Pts(pts), |dts| Times::Both { pts, dts: dts.value() })
+    let value = |time: Result<Timestamp, _>| time.unwrap().value();
+    match contents.pts_dts() {
+        Err(_) => Times::Untimed,
+        Ok(PtsDts::PtsOnly(pts)) => Times::Pts(value(pts)),
+        Ok(PtsDts::Both { pts, dts }) => Times::Both { pts: value(pts), dts: value(dts) },
+    }
 }
 
 fn check_found(found: &FoundUnit<'_>, unit: &Unit, payload: &[u8]) {
@@ -121,14 +128,16 @@ fn what_is_written_is_read_back() {
         let longest = if rng.below(50) == 0 { 65_400 } else { 1_000 };
         let payload: Vec<u8> = (0..rng.below(longest)).map(|_| rng.below(256) as u8).collect();
         let packets = unit.packets(&payload).unwrap();
-        let least = (9 + data_bytes(&unit) + payload.len()).div_ceil(184);
+        let least = (9 + data_bytes(&unit) + payload.len() + 183) / 184;
         assert_eq!((packets.len(), read_back(&packets)), (least * Packet::SIZE, unit));
         let mut units = 0;
         let mut demux = Demux::new();
         demux.push(&packets, |found| assert!(matches!(found, Found::StartStream { .. } | Found::Begin { .. })));
         demux.finish(|found| {
-            let Found::Unit(found) = found else { panic!("{found:?}") };
-            check_found(&found, &unit, &payload);
+            match found {
+                Found::Unit(found) => check_found(&found, &unit, &payload),
+                other => panic!("{other:?}"),
+            }
             units += 1;
         });
         assert_eq!(units, 1);
