@@ -1,4 +1,5 @@
--- Where the payload of a header lies, by what `pes::contents` and `contents::payload_at` answered.
+-- Where the payload of a header lies, by what `pes::contents` and `contents::payload_at` answered. The functions' proofs find these by
+-- `header-laws`: a premise is a promise of what they call, or which of its answers it was.
 -- Assumes nothing.
 use mathlib.Core.Path.{_≡_, refl, sym, ap, _∙_}
 use mathlib.Core.Bool.{Bool, true, false}
@@ -10,25 +11,27 @@ use denote.Enum.Declared.{tagOf}
 use lib.Dec.{eqb}
 use lib.ListN.{length, getD, take, drop, length-drop}
 use lib.Seq.{drop-drop}
+use borrow.Author.Needs.{needs}
 use borrow.Author.Tests.{eqb-true, eqb-false}
-use Rattle.bits.specs.Answer.{Answer, answer, pick, truth, unless, partOf, Within}
+use Rattle.bits.specs.Answer.{Answer, answer, pick, unless, partAt, partOf, Within}
+use Rattle.bits.proofs.Bools.{is-true, is-false}
 use Rattle.bits.proofs.Checks.{refused-by, unless-number, unless-most}
-use Rattle.bits.proofs.Parts.{part-rest}
+use Rattle.bits.proofs.Parts.{part-rest, part-refused, part-done}
 use Rattle.pes.specs.declared.ContentsRead.{ContentsRead}
 use Rattle.pes.specs.Stream.{parsedId}
-use Rattle.pes.specs.Head.{notHead, idOf, givenContents, readContentsPart}
-use Rattle.pes.proofs.Laws.{contents-known}
+use Rattle.pes.specs.Head.{notHead, idOf, givenContents, readContentsPart, contentsPart}
+use Rattle.pes.proofs.Laws.{Headed, headed-done, contents-within, contents-known}
 use Rattle.contents.specs.declared.PartRead.{PartRead}
 use Rattle.contents.specs.declared.Refusal.{Refusal}
 use Rattle.contents.specs.Contents.{notContents, readPayload, readContents}
 use Rattle.contents.specs.Given.{refusal, givenPart}
-use Rattle.contents.proofs.Laws.{payload-within}
+use Rattle.contents.proofs.Laws.{payload-within as contents-payload-within}
 use Rattle.pes_header.specs.declared.PayloadRead.{PayloadRead}
-use Rattle.pes_header.specs.Payload.{givenPayload, later, headerPayload}
+use Rattle.pes_header.specs.Payload.{givenPayload, later, headerPayload, payloadBytes}
 use Rattle.pes_header.proofs.PayloadRead.{the-type}
 
 -- an answer that is not `Done` is a refusal
-pub payload-refusal : (r : PayloadRead) → OneOf (1 ∷ 2 ∷ 3 ∷ 4 ∷ 5 ∷ 6 ∷ []) (tagOf the-type r) → givenPayload r .number ≡ 0 → ⊥
+payload-refusal : (r : PayloadRead) → OneOf (1 ∷ 2 ∷ 3 ∷ 4 ∷ 5 ∷ 6 ∷ []) (tagOf the-type r) → givenPayload r .number ≡ 0 → ⊥
 payload-refusal (PayloadRead.Done p n) k z = miss (1 ∷ 2 ∷ 3 ∷ 4 ∷ 5 ∷ 6 ∷ []) 0 tt k
 payload-refusal PayloadRead.ShortHeader k z = omega arith
 payload-refusal PayloadRead.BadStartCode k z = omega arith
@@ -37,16 +40,8 @@ payload-refusal PayloadRead.BadCheckBits k z = omega arith
 payload-refusal PayloadRead.HeaderPastBuffer k z = omega arith
 payload-refusal PayloadRead.FieldsPastHeader k z = omega arith
 
-is-true : (t : Bool) → 1 ≡ truth t → t ≡ true
-is-true true e = refl
-is-true false e = absurd (omega arith)
-
-is-false : (t : Bool) → 0 ≡ truth t → t ≡ false
-is-false true e = absurd (omega arith)
-is-false false e = refl
-
 -- a refusal names no place that could be moved
-pub later-refused : (w : Refusal) → refusal w ≡ later 6 (refusal w)
+later-refused : (w : Refusal) → refusal w ≡ later 6 (refusal w)
 later-refused Refusal.ShortContents = refl
 later-refused Refusal.BadCheckBits = refl
 later-refused Refusal.HeaderPastBuffer = refl
@@ -86,10 +81,16 @@ unfolding notContents
 contents-number c a z = (unless-number (notContents c) a (answer 0 []) z, unless-most (notContents c) 8 (omega arith) a (omega arith))
 
 module _ (xs : List ℕ) where
-  pub refused-head : (r s : ContentsRead) → r ≡ s → givenContents r ≡ readContentsPart xs → 0 < givenContents s .number
+  refused-head : (r s : ContentsRead) → r ≡ s → givenContents r ≡ readContentsPart xs → 0 < givenContents s .number
       → givenContents s ≡ headerPayload xs
   unfolding headerPayload
   refused-head r s e g h = refused-by (notHead xs) _ refl (givenContents s) h (sym (ap givenContents e) ∙ g) _
+
+  pub short-head : (r : ContentsRead) → r ≡ ContentsRead.ShortHeader → givenContents r ≡ readContentsPart xs → answer 3 [] ≡ headerPayload xs
+  short-head r e g = refused-head r _ e g (omega arith)
+
+  pub bad-start : (r : ContentsRead) → r ≡ ContentsRead.BadStartCode → givenContents r ≡ readContentsPart xs → answer 4 [] ≡ headerPayload xs
+  bad-start r e g = refused-head r _ e g (omega arith)
 
   pub bare : (r : ContentsRead) (p n : ℕ) → r ≡ ContentsRead.Payload p n → givenContents r ≡ readContentsPart xs
       → answer 0 (p ∷ n ∷ []) ≡ headerPayload xs
@@ -99,8 +100,11 @@ module _ (xs : List ℕ) where
       rw (k .2, k .3) (sym (k .0 .is _ ∙ rw (is-false (parsedId (idOf xs)) (k .1)) (k .0 .is _)))
 
   module _ (r : ContentsRead) (p n : ℕ) (e : r ≡ ContentsRead.Parsed p n) (g : givenContents r ≡ readContentsPart xs) where
-    pub parsed-there : (p ≡ 6) × (6 ≤ length xs)
+    parsed-there : (p ≡ 6) × (6 ≤ length xs)
     parsed-there = let k = contents-known xs 1 p n (sym (ap givenContents e) ∙ g) in (k .2, k .0 .long)
+
+    pub parsed-fits : p ≤ length xs
+    parsed-fits = omega (arith, parsed-there)
 
     module _ (q : PartRead) (f : givenPart q ≡ readPayload (take (length xs - p) (drop p xs))) where
       read-off : givenPart q ≡ readPayload (drop 6 xs)
@@ -112,18 +116,44 @@ module _ (xs : List ℕ) where
           let k = contents-known xs 1 p n (sym (ap givenContents e) ∙ g) in
           rw read-off (sym (k .0 .is _ ∙ rw (is-true (parsedId (idOf xs)) (k .1))))
 
-      pub contents-refused : (w : Refusal) → q ≡ PartRead.Refused w → refusal w ≡ headerPayload xs
-      contents-refused w h = later-refused w ∙ (ap (λ (z : PartRead). later 6 (givenPart z)) (sym h) ∙ parsed-is)
+      pub contents-refused : (w : Refusal) (s : PayloadRead) → q ≡ PartRead.Refused w → givenPayload s ≡ refusal w → givenPayload s ≡ headerPayload xs
+      contents-refused w s h f = f ∙ (later-refused w ∙ (ap (λ (z : PartRead). later 6 (givenPart z)) (sym h) ∙ parsed-is))
 
-      pub never-flagged : q ≡ PartRead.FieldNotPresent → ⊥
-      never-flagged h =
-          let z : 9 ≡ readPayload (drop 6 xs) .number = ap (λ (a : Answer). a .number) (ap givenPart (sym h) ∙ read-off) in
+      -- a payload is never flagged, so that any answer will do
+      pub never-flagged : (a : Answer) → q ≡ PartRead.FieldNotPresent → a ≡ headerPayload xs
+      never-flagged a h =
+          let z : 9 ≡ readPayload (drop 6 xs) .number = ap (λ (b : Answer). b .number) (ap givenPart (sym h) ∙ read-off) in
           let l : readPayload (drop 6 xs) .number ≤ 8 = contents-number (drop 6 xs) _ refl .1 in
-          omega arith
+          absurd (omega arith)
 
-      pub contents-accepted : (a m : ℕ) → q ≡ PartRead.Done a m → (answer 0 ((p + a) ∷ m ∷ []) ≡ headerPayload xs) × (p + a + m ≤ length xs)
-      contents-accepted a m h =
-          let y : answer 0 (a ∷ m ∷ []) ≡ readPayload (drop 6 xs) = ap givenPart (sym h) ∙ read-off in
-          let w : a + m ≤ length (drop 6 xs) = (rw (← y) at (payload-within (drop 6 xs))) refl in
-          let d : answer 0 ((6 + a) ∷ m ∷ []) ≡ headerPayload xs = ap (λ (z : PartRead). later 6 (givenPart z)) (sym h) ∙ parsed-is in
-          (ap (λ (i : ℕ). answer 0 ((i + a) ∷ m ∷ [])) (parsed-there .0) ∙ d, omega (arith, length-drop 6 xs, parsed-there))
+      module _ (a m : ℕ) (h : q ≡ PartRead.Done a m) where
+        pub contents-accepted : answer 0 ((p + a) ∷ m ∷ []) ≡ headerPayload xs
+        contents-accepted =
+            ap (λ (i : ℕ). answer 0 ((i + a) ∷ m ∷ [])) (parsed-there .0) ∙ (ap (λ (z : PartRead). later 6 (givenPart z)) (sym h) ∙ parsed-is)
+
+        pub accepted-fits : p + a + m ≤ length xs
+        accepted-fits =
+            let y : answer 0 (a ∷ m ∷ []) ≡ readPayload (drop 6 xs) = ap givenPart (sym h) ∙ read-off in
+            let w : a + m ≤ length (drop 6 xs) = (rw (← y) at (contents-payload-within (drop 6 xs))) refl in
+            omega (arith, length-drop 6 xs, parsed-there)
+
+  -- the payload lies within the bytes
+  pub payload-within : Within (headerPayload xs) xs
+  unfolding headerPayload
+  payload-within z = let h = headed-done xs _ z in go (parsedId (idOf xs)) h z
+    where
+      go : (t : Bool) → Headed xs → Within (unless (notHead xs) (pick t (later 6 (readPayload (drop 6 xs))) (contentsPart xs))) xs
+      go true h = rw (h .is (later 6 (readPayload (drop 6 xs)))) (later-within 6 (readPayload (drop 6 xs)) xs (h .long) (contents-payload-within (drop 6 xs)))
+      go false h = rw (h .is (contentsPart xs)) (contents-within xs)
+
+  -- its bytes, by where it is said to lie
+  module _ (r : PayloadRead) (g : givenPayload r ≡ headerPayload xs) where
+    pub no-payload : OneOf (1 ∷ 2 ∷ 3 ∷ 4 ∷ 5 ∷ 6 ∷ []) (tagOf the-type r) → [] ≡ payloadBytes xs
+    unfolding payloadBytes
+    no-payload k = part-refused _ _ (λ z. payload-refusal r k (ap (λ (a : Answer). a .number) g ∙ z))
+
+    pub payload-part : (p n : ℕ) (ys : List ℕ) → r ≡ PayloadRead.Done p n → ys ≡ partAt p n xs → ys ≡ payloadBytes xs
+    unfolding payloadBytes
+    payload-part p n ys e f = f ∙ part-done _ _ p n (ap givenPayload (sym e) ∙ g) payload-within
+
+pub ruleset header-laws = (short-head, bad-start, bare, parsed-fits, contents-refused, never-flagged, contents-accepted, no-payload, payload-part, needs)

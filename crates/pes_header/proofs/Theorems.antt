@@ -24,7 +24,6 @@ use Rattle.pes.specs.Head.{notHead, idOf, readHead, readStreamId, readLength, r
 use Rattle.pes.proofs.Laws.{Headed, headed-done, contents-within}
 use Rattle.pes.proofs.Theorems.{one-head, one-stream-id, one-length, one-contents}
 use Rattle.contents.specs.Contents.{readPayload, readContents}
-use Rattle.contents.proofs.Laws.{payload-within as contents-payload-within}
 use Rattle.pes_header.specs.declared.PesHeader.{PesHeader}
 use Rattle.pes_header.specs.declared.PayloadRead.{PayloadRead}
 use Rattle.pes_header.specs.Payload.{givenPayload, later, headerPayload, payloadBytes}
@@ -77,19 +76,9 @@ module _ (h : PesHeader) (xs : List ℕ) (e : now (h .buf) ≡ xs) where
   pub kept-part : (f : List ℕ → List ℕ) (r s : List ℕ) → r ≡ f (now (h .buf)) → s ≡ f xs → r ≡ s
   kept-part f r s p q = p ∙ (ap f e ∙ sym q)
 
--- ---- the payload lies within the bytes
+-- ---- what the payload is, by case; that it lies within the bytes is in `Laws`, where the functions cite it
 
 module _ (xs : List ℕ) where
-  pub payload-within : Within (headerPayload xs) xs
-  unfolding headerPayload
-  payload-within z = let h = headed-done xs _ z in go (parsedId (idOf xs)) h z
-    where
-      go : (t : Bool) → Headed xs → Within (unless (notHead xs) (pick t (later 6 (readPayload (drop 6 xs))) (contentsPart xs))) xs
-      go true h = rw (h .is (later 6 (readPayload (drop 6 xs)))) (later-within 6 (readPayload (drop 6 xs)) xs (h .long) (contents-payload-within (drop 6 xs)))
-      go false h = rw (h .is (contentsPart xs)) (contents-within xs)
-
-  -- ---- what it is, by case
-
   -- a head that is refused: its own number, and no bytes
   pub refused-payload : (readHead xs .number ≡ 0 → ⊥) → (headerPayload xs ≡ readHead xs) × (payloadBytes xs ≡ [])
   unfolding headerPayload payloadBytes

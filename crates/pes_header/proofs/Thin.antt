@@ -2,6 +2,7 @@
 -- of its result.
 --     the-fn    the MIR of such a function, at the type of its result and the callee's name: each reader's `code.function` computes to it
 --     thin      from the callee's theorem at its key, that the reader meets the same fact of the bytes that the header keeps
+--     enum-reads, slice-reads     a reader's theorem from its callee's, where the result is an answer or a part of the bytes
 -- The struct is Copy: what it owns is had twice, one copy is kept whole for the exit, and of the other what buf owns goes to the callee,
 -- beside the lifetime's token, which comes back.
 -- Assumes nothing.
@@ -16,10 +17,13 @@ use mir.Syntax.{place, field, assign, rvOpd, copy, call, seq, return}
 use mir.Val.{Val, WT, hasTy}
 use base.Logic.{SProp, ent, sep, emp, via, fst∗, snd∗, exE, id⊢}
 use base.Fml.{Lft, Share, Fml, ftrue, flft}
-use prog.Wp.{Heap, Calls, Loops, WpFn, Tables}
+use prog.Model.{Model}
+use prog.Routine.{Routine, Env}
+use prog.Wp.{Heap, Calls, Loops, WpFn, Tables, Closed}
 use ghost.Atoms.{Atoms, sem}
 use contract.Lifetimes.{Lfts}
 use contract.Monad.{fact}
+use contract.Running.{GhostRules, Running, givenOf, tables, tablesOf}
 use types.Kit.{Given, ‵, raw, _⊛_, given, ⋆, some, later, _$_, _∵_, !, qed, by, move, drop, use1, use2, split, join, learn, pick}
 use types.Kit.{fsplit, fjoin, suffices, frame, await, done}
 use types.Part.{whole, sub, look-in}
@@ -27,11 +31,14 @@ use types.Run.{look, init, forget, stop, fld, from, load, of-opd, and-then, no-m
 use types.Run.{alloc1, alloc0, params1, pass1, pass0, free1, free0}
 use sound.WpLaws.{FmC, fmOf, WpFn-mono}
 use denote.RattleType.{RattleType, owns}
-use denote.Laws.{Is, shows}
+use denote.Laws.{Is, Lawful, shows}
+use denote.Enum.Declared as Enums
+use denote.Enum.Enum.{Few, formOf}
+use denote.Enum.Laws as EL
 use denote.Builtin.{u8, SliceRefOf}
-use denote.Ref.{RefT}
+use denote.Ref.{RefT, now}
 use denote.Signature.{namedLft, plain}
-use denote.Slice.{sliceVal, sliceTy, ShrSlice}
+use denote.Slice.{sliceVal, sliceTy, ShrSlice, shr-slice-lawful}
 use denote.Steps.{peeks, heard, nothing}
 use denote.Struct.Declared.{Declared}
 use denote.Struct.Laws as LL
@@ -41,9 +48,11 @@ use denote.Triple.Statement.{Contract, Triple}
 use denote.Triple.Call.{calls-at}
 use denote.Triple.Entry.{Vals, onEntry}
 use denote.Triple.Spec.{Meets, tripleOf}
+use denote.Triple.Table.{entered, cited}
 use denote.Triple.Walked.{says, Stays, stay-none, walkOf, goes-none, ends-at, walked, walk-meets}
 use denote.Triple.Clauses.{Ended, Clauses, closing, ensured, lasts}
 use denote.Exit.{yes}
+use Rattle.bits.specs.Answer.{Answer}
 use Rattle.pes_header.specs.declared.PesHeader.{PesHeader}
 use Rattle.pes_header.proofs.PesHeader as T
 use Rattle.pes_header.proofs.PesHeader.Laws as T′
@@ -193,3 +202,43 @@ module _ (F : Lfts 1 → RattleType) where
         via 𝓤 _ (fst∗ 𝓤 _ (emp 𝓤))
         (walk W (κs .0) (qs .0) (a .0) τ (typed (κs .0)) k (𝓣 .C) (𝓣 .Λ) (fmOf 𝓤 H (W .laws) 𝓣) known
         (LL.lawful (T.the-type (namedLft 1 0 tt κs)) (T′.the-laws (namedLft 1 0 tt κs)) 𝓤 H A W .typed (a .0) _ (are .0) .0))))
+
+-- a reader named n, whose calls mean γ: there the callee k is the routine r, which meets its contract
+module _ {M : Type 1} (𝓤 : URA M) (H : Heap 𝓤) (𝓜 : Model 𝓤 H) (𝓖 : GhostRules 𝓤 H) (𝓡 : Running 𝓤 H 𝓜) (n k : Name) (γ : Env) (r : Routine) (calls : γ k ≡ r) where
+  abbrev Unfolded : Ty → Type 2
+  Unfolded τ = Closed 𝓤 H (tables 𝓤 H 𝓜 𝓡 γ .C) (tables 𝓤 H 𝓜 𝓡 γ .Λ) n (the-fn τ k)
+
+  module _ (F : Lfts 1 → RattleType) (Fact : (κs : Lfts 1) → RefT (List ℕ) → F κs .Denot → Type 0) where
+    abbrev Known : Type 1
+    Known = Triple 𝓤 (𝓡 .run r) (Callee F Fact 𝓤 H (𝓖 .A))
+
+    abbrev Reads : Type 1
+    Reads = Meets 𝓤 H (𝓖 .A) (self F .signature) (𝓡 .run (γ n)) (closing 𝓤 H (𝓖 .A) (self F) (self-clauses F Fact 𝓤 H (𝓖 .A)))
+
+    reads : (τ : Ty) → ((κ : Lft) (r : F (κ, tt) .Denot) (u : Val) → Is (F (κ, tt)) r (u ∷ []) → Holds (hasTy τ u) × WT u) → Unfolded τ → Known → Reads
+    unfolding tablesOf
+    reads τ typed closed known =
+        entered 𝓤 H (tripleOf 𝓤 H (𝓖 .A) (self F .signature) (closing 𝓤 H (𝓖 .A) (self F) (self-clauses F Fact 𝓤 H (𝓖 .A))))
+        (tables 𝓤 H 𝓜 𝓡 γ .C) (tables 𝓤 H 𝓜 𝓡 γ .Λ) n (the-fn τ k) closed
+        (thin F Fact 𝓤 H (𝓖 .A) (givenOf 𝓤 H 𝓜 𝓖) τ typed k (tablesOf 𝓤 H 𝓜 (tables 𝓤 H 𝓜 𝓡 γ))
+        (cited 𝓤 H (Callee F Fact 𝓤 H (𝓖 .A)) 𝓜 𝓡 γ k r calls known))
+
+  -- the result is an answer, told by its number and values
+  module _ (E : Enums.Declared) (L : EL.Laws E) (few : Few (Enums.shape E)) (given : E .D → Answer) (read : List ℕ → Answer) where
+    abbrev answered : (κs : Lfts 1) → RefT (List ℕ) → E .D → Type 0
+    answered κs x a = given a ≡ read (now x)
+
+    pub enum-reads : Unfolded (formOf (Enums.shape E) .ty) → Known (λ κs. Enums.row E) answered → Reads (λ κs. Enums.row E) answered
+    enum-reads =
+        reads (λ κs. Enums.row E) answered (formOf (Enums.shape E) .ty) (λ κ a u is. EL.lawful E L 𝓤 H (𝓖 .A) (givenOf 𝓤 H 𝓜 𝓖) few .typed a _ is .0)
+
+  -- the result is a part of the bytes
+  module _ (part : List ℕ → List ℕ) where
+    abbrev handed : (κs : Lfts 1) → RefT (List ℕ) → RefT (List ℕ) → Type 0
+    handed κs x s = now s ≡ part (now x)
+
+    pub slice-reads : Unfolded (sliceTy (tyRef (named 0) imm (tyInt w8))) → Known (λ κs. ShrSlice (named 0) (κs .0) u8) handed
+        → Reads (λ κs. ShrSlice (named 0) (κs .0) u8) handed
+    slice-reads =
+        reads (λ κs. ShrSlice (named 0) (κs .0) u8) handed (sliceTy (tyRef (named 0) imm (tyInt w8)))
+        (λ κ s u is. shr-slice-lawful 𝓤 H (𝓖 .A) (givenOf 𝓤 H 𝓜 𝓖) (named 0) κ u8 .typed s _ is .0)

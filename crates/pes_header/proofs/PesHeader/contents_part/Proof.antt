@@ -1,42 +1,16 @@
--- `pes_header::PesHeader::contents_part` meets its contract: `Thin.antt`'s walk, at `pes::contents_part`.
--- Assumes nothing.
-use mathlib.Core.Path.{_≡_}
+-- `Thin.antt`'s walk, at `pes::contents_part`.
 use mathlib.Core.List.{List}
 use Prim.Native.Nat.{ℕ}
-use mir.Syntax.{named, imm, w8, tyInt, tyRef}
-use contract.Lifetimes.{Lfts}
-use contract.Running.{givenOf, tables, tablesOf}
-use denote.Builtin.{u8}
-use denote.RattleType.{RattleType}
-use denote.Ref.{RefT, now}
-use denote.Slice.{ShrSlice, sliceTy, shr-slice-lawful}
-use denote.Triple.Spec.{tripleOf}
-use denote.Triple.Table.{entered, cited}
 use Rattle.bits.specs.Answer.{partOf}
 use Rattle.pes.specs.Head.{contentsPart}
-use Rattle.pes_header.proofs.Thin.{Callee, thin}
-use Rattle.pes.proofs.contents_part.Symbol as callee-def
-use Rattle.pes.proofs.contents_part.Symbol.{name as #callee}
-use Rattle.pes.proofs.contents_part.Met as callee-thm
-use Rattle.pes_header.proofs.PesHeader.contents_part.Key.{name as #self}
-use Rattle.pes_header.proofs.PesHeader.contents_part as self
-use Rattle.pes_header.proofs.PesHeader.contents_part.Statement as stated
+use Rattle.pes.proofs.contents_part.Symbol as callee
+use Rattle.pes.proofs.contents_part.Met.{met}
+use Rattle.pes_header.proofs.Thin.{slice-reads}
+use Rattle.pes_header.proofs.PesHeader.contents_part.Key.{name}
+use Rattle.pes_header.proofs.PesHeader.contents_part.Statement.{statement}
 use Rattle.pes_header.proofs.PesHeader.contents_part.Code as code
 
-abbrev F : Lfts 1 → RattleType
-F = λ κs. ShrSlice (named 0) (κs .0) u8
-
--- what `pes::contents_part` says of its result
-abbrev Fact : (κs : Lfts 1) → RefT (List ℕ) → F κs .Denot → Type 0
-Fact κs x r = now r ≡ partOf (contentsPart (now x)) (now x)
-
-pub contents-part-spec : {M : Type 1} → stated.statement M
-unfolding code.routine tablesOf
+pub contents-part-spec : {M : Type 1} → statement M
+unfolding code.routine
 contents-part-spec 𝓤 H 𝓜 𝓖 𝓡 =
-    entered 𝓤 H (tripleOf 𝓤 H (𝓖 .A) self.signature (self.spec 𝓤 H (𝓖 .A) (𝓜 .mem) (𝓡 .run)))
-    (tables 𝓤 H 𝓜 𝓡 code.env .C) (tables 𝓤 H 𝓜 𝓡 code.env .Λ) #self code.function (code.unfolded 𝓤 H 𝓜 𝓡)
-    (thin F Fact 𝓤 H (𝓖 .A) (givenOf 𝓤 H 𝓜 𝓖) (sliceTy (tyRef (named 0) imm (tyInt w8)))
-    (λ κ r u is. shr-slice-lawful 𝓤 H (𝓖 .A) (givenOf 𝓤 H 𝓜 𝓖) (named 0) κ u8 .typed r _ is .0)
-    #callee (tablesOf 𝓤 H 𝓜 (tables 𝓤 H 𝓜 𝓡 code.env))
-    (cited 𝓤 H (Callee F Fact 𝓤 H (𝓖 .A)) 𝓜 𝓡 code.env #callee callee-def.routine
-    code.calls-pes·contents-part (callee-thm.met 𝓤 H 𝓜 𝓖 𝓡)))
+    slice-reads 𝓤 H 𝓜 𝓖 𝓡 name callee.name code.env callee.routine code.calls-pes·contents-part (λ (xs : List ℕ). partOf (contentsPart xs) xs) (code.unfolded 𝓤 H 𝓜 𝓡) (met 𝓤 H 𝓜 𝓖 𝓡)

@@ -1,41 +1,13 @@
--- `pes_header::PesHeader::payload` meets its contract: `Thin.antt`'s walk, at `payload`.
--- Assumes nothing.
-use mathlib.Core.Path.{_≡_}
-use mathlib.Core.List.{List}
-use Prim.Native.Nat.{ℕ}
-use mir.Syntax.{named, imm, w8, tyInt, tyRef}
-use contract.Lifetimes.{Lfts}
-use contract.Running.{givenOf, tables, tablesOf}
-use denote.Builtin.{u8}
-use denote.RattleType.{RattleType}
-use denote.Ref.{RefT, now}
-use denote.Slice.{ShrSlice, sliceTy, shr-slice-lawful}
-use denote.Triple.Spec.{tripleOf}
-use denote.Triple.Table.{entered, cited}
+-- `Thin.antt`'s walk, at `payload`.
 use Rattle.pes_header.specs.Payload.{payloadBytes}
-use Rattle.pes_header.proofs.Thin.{Callee, thin}
-use Rattle.pes_header.proofs.payload.Symbol as callee-def
-use Rattle.pes_header.proofs.payload.Symbol.{name as #callee}
-use Rattle.pes_header.proofs.payload.Met as callee-thm
-use Rattle.pes_header.proofs.PesHeader.payload.Key.{name as #self}
-use Rattle.pes_header.proofs.PesHeader.payload as self
-use Rattle.pes_header.proofs.PesHeader.payload.Statement as stated
+use Rattle.pes_header.proofs.payload.Symbol as callee
+use Rattle.pes_header.proofs.payload.Met.{met}
+use Rattle.pes_header.proofs.Thin.{slice-reads}
+use Rattle.pes_header.proofs.PesHeader.payload.Key.{name}
+use Rattle.pes_header.proofs.PesHeader.payload.Statement.{statement}
 use Rattle.pes_header.proofs.PesHeader.payload.Code as code
 
-abbrev F : Lfts 1 → RattleType
-F = λ κs. ShrSlice (named 0) (κs .0) u8
-
--- what `payload` says of its result
-abbrev Fact : (κs : Lfts 1) → RefT (List ℕ) → F κs .Denot → Type 0
-Fact κs x r = now r ≡ payloadBytes (now x)
-
-pub payload-spec : {M : Type 1} → stated.statement M
-unfolding code.routine tablesOf
+pub payload-spec : {M : Type 1} → statement M
+unfolding code.routine
 payload-spec 𝓤 H 𝓜 𝓖 𝓡 =
-    entered 𝓤 H (tripleOf 𝓤 H (𝓖 .A) self.signature (self.spec 𝓤 H (𝓖 .A) (𝓜 .mem) (𝓡 .run)))
-    (tables 𝓤 H 𝓜 𝓡 code.env .C) (tables 𝓤 H 𝓜 𝓡 code.env .Λ) #self code.function (code.unfolded 𝓤 H 𝓜 𝓡)
-    (thin F Fact 𝓤 H (𝓖 .A) (givenOf 𝓤 H 𝓜 𝓖) (sliceTy (tyRef (named 0) imm (tyInt w8)))
-    (λ κ r u is. shr-slice-lawful 𝓤 H (𝓖 .A) (givenOf 𝓤 H 𝓜 𝓖) (named 0) κ u8 .typed r _ is .0)
-    #callee (tablesOf 𝓤 H 𝓜 (tables 𝓤 H 𝓜 𝓡 code.env))
-    (cited 𝓤 H (Callee F Fact 𝓤 H (𝓖 .A)) 𝓜 𝓡 code.env #callee callee-def.routine
-    code.calls-pes-header·payload (callee-thm.met 𝓤 H 𝓜 𝓖 𝓡)))
+    slice-reads 𝓤 H 𝓜 𝓖 𝓡 name callee.name code.env callee.routine code.calls-pes-header·payload payloadBytes (code.unfolded 𝓤 H 𝓜 𝓡) (met 𝓤 H 𝓜 𝓖 𝓡)
