@@ -32,18 +32,17 @@ fn contents_at(recording: &[u8], index: u64) -> Option<PesParsedContents<'_>> {
 
 /// The unit with these fields of its header.
 fn with_fields(unit: Unit, contents: &PesParsedContents<'_>) -> Unit {
-    Unit {
-        priority: contents.pes_priority() == 1,
-        alignment: contents.data_alignment_indicator() == DataAlignment::Aligned,
-        copyright: contents.copyright() == Copyright::Undefined, // the bit is 1
-        original: contents.original_or_copy() == OriginalOrCopy::Original,
-        escr: contents.escr().ok().map(|clock| (clock.base(), clock.extension())),
-        es_rate: contents.es_rate().ok().map(u32::from),
-        trick_mode: contents.raw_trick_mode().ok(),
-        copy_info: contents.additional_copy_info().ok(),
-        crc: contents.previous_pes_packet_crc().ok(),
-        ..unit
-    }
+    let mut unit = unit
+        .priority(contents.pes_priority() == 1)
+        .alignment(contents.data_alignment_indicator() == DataAlignment::Aligned)
+        .copyright(contents.copyright() == Copyright::Undefined) // the bit is 1
+        .original(contents.original_or_copy() == OriginalOrCopy::Original);
+    unit.escr = contents.escr().ok().map(|clock| (clock.base(), clock.extension()));
+    unit.es_rate = contents.es_rate().ok().map(u32::from);
+    unit.trick_mode = contents.raw_trick_mode().ok();
+    unit.copy_info = contents.additional_copy_info().ok();
+    unit.crc = contents.previous_pes_packet_crc().ok();
+    unit
 }
 
 /// The units in their order, each PID with counters of its own.
@@ -58,12 +57,10 @@ impl Writer {
     fn unit(&mut self, found: &FoundUnit<'_>, contents: Option<PesParsedContents<'_>>) {
         let pid = u16::from(found.pid);
         let counter = self.counters.entry(pid).or_default();
-        let unit = Unit {
-            counter: *counter,
-            bounded: found.payload.len() <= LONGEST_BOUNDED,
-            times: times_of(found),
-            ..Unit::new(pid, found.stream_id.number())
-        };
+        let unit = Unit::new(pid, found.stream_id.number())
+            .counter(*counter)
+            .bounded(found.payload.len() <= LONGEST_BOUNDED)
+            .times(times_of(found));
         let unit = contents.map_or(unit, |contents| with_fields(unit, &contents));
         match unit.packets(found.payload) {
             Ok(packets) => {

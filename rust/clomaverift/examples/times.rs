@@ -20,16 +20,16 @@ fn times(header: &PesHeader<'_>) -> Option<PtsDts> {
 fn print(found: Found<'_>) {
     let place = |index: u64| index * Packet::SIZE as u64;
     match found {
-        Found::Clock { pid, index, pcr } => println!("pcr {} {} {}", u16::from(pid), place(index), u64::from(pcr)),
-        Found::Begin { pid, index, header } => {
+        Found::Clock { pid, index, pcr, .. } => println!("pcr {} {} {}", u16::from(pid), place(index), u64::from(pcr)),
+        Found::Begin { pid, index, header, .. } => {
             let times = times(&header);
             let pts = shown(times.and_then(|times| times.pts()));
             let dts = shown(times.and_then(|times| times.dts()));
             println!("unit {} {} {pts} {dts}", u16::from(pid), place(index));
         }
-        Found::ContinuityError { pid, index } => eprintln!("break {} {}", u16::from(pid), place(index)),
-        Found::Refused { index, error } => eprintln!("refused {}: {error}", place(index)),
-        Found::StartStream { .. } | Found::Unit(_) | Found::StoreFull { .. } => (),
+        Found::ContinuityError { pid, index, .. } => eprintln!("break {} {}", u16::from(pid), place(index)),
+        Found::Refused { index, error, .. } => eprintln!("refused {}: {error}", place(index)),
+        _ => (),
     }
 }
 

@@ -23,10 +23,13 @@ const STUFFING: [u8; Packet::SIZE] = {
 };
 
 /// Something found in a recording. An index is that of a packet among all that were pushed, the first being 0: the packet's place in a
-/// file of whole packets is 188 times the index.
+/// file of whole packets is 188 times the index. More may be found, and more said of each: a `match` needs an arm for the rest, and `..` in
+/// its patterns.
 #[derive(Clone, Copy, Debug)]
+#[non_exhaustive]
 pub enum Found<'a> {
     /// The first packet of a PID that begins something.
+    #[non_exhaustive]
     StartStream {
         /// The PID.
         pid: Pid,
@@ -34,6 +37,7 @@ pub enum Found<'a> {
         index: u64,
     },
     /// A unit begins. Its payload comes as [`Found::Unit`], once it has ended.
+    #[non_exhaustive]
     Begin {
         /// The PID.
         pid: Pid,
@@ -45,6 +49,7 @@ pub enum Found<'a> {
     /// A unit that has ended.
     Unit(FoundUnit<'a>),
     /// The counter of a PID breaks. The unit that was open, if there was one, is lost.
+    #[non_exhaustive]
     ContinuityError {
         /// The PID.
         pid: Pid,
@@ -52,6 +57,7 @@ pub enum Found<'a> {
         index: u64,
     },
     /// The open unit of a PID was given up, because it has more bytes than are allowed.
+    #[non_exhaustive]
     StoreFull {
         /// The PID.
         pid: Pid,
@@ -59,6 +65,7 @@ pub enum Found<'a> {
         index: u64,
     },
     /// A program clock reference. One that is announced and cut off is not told.
+    #[non_exhaustive]
     Clock {
         /// The PID.
         pid: Pid,
@@ -69,6 +76,7 @@ pub enum Found<'a> {
     },
     /// A packet was refused, and counts in the index alone: [`Error::NoSync`], or [`Error::WrongLength`] for bytes after the last
     /// whole packet.
+    #[non_exhaustive]
     Refused {
         /// The packet.
         index: u64,
@@ -79,6 +87,7 @@ pub enum Found<'a> {
 
 /// A unit of a recording.
 #[derive(Clone, Copy, Debug)]
+#[non_exhaustive]
 pub struct FoundUnit<'a> {
     /// The PID.
     pub pid: Pid,

@@ -2,7 +2,8 @@
 
 use std::fmt;
 
-/// Why the library refused. Each refusal has a number, 1 to 20, and is given exactly when its line says.
+/// Why the library refused. Each refusal has a number, 1 to 20, and is given exactly when its line says. More may be added: a `match`
+/// needs an arm for the rest.
 ///
 /// ```
 /// use clomaverift::{Error, Timestamp};
@@ -13,6 +14,7 @@ use std::fmt;
 /// assert_eq!(error.to_string(), "marker bit 23 is not set");
 /// ```
 #[derive(Clone, Copy, Debug, PartialEq, Eq, Hash)]
+#[non_exhaustive]
 pub enum Error {
     /// 1: a packet of other than 188 bytes, a run over other than whole packets, a timestamp of under 5 bytes, a clock reference of
     /// under 6, an empty adaptation field.
@@ -63,6 +65,8 @@ pub enum Error {
     NoRoom,
     /// 20: a unit would exceed the store.
     StoreFull,
+    /// A number that the library gave and this crate does not know, of a refusal or of a kind: the archives are newer than the crate.
+    Unknown(u32),
 }
 
 impl Error {
@@ -92,11 +96,11 @@ impl Error {
             18 => Error::TooLong,
             19 => Error::NoRoom,
             20 => Error::StoreFull,
-            _ => panic!("the library gave the number {number}, which it does not have"),
+            _ => Error::Unknown(number.into()),
         })
     }
 
-    /// The number of the refusal, 1 to 20.
+    /// The number of the refusal, 1 to 20; 0 for [`Error::Unknown`].
     pub fn number(&self) -> u32 {
         match self {
             Error::WrongLength => 1,
@@ -119,6 +123,7 @@ impl Error {
             Error::TooLong => 18,
             Error::NoRoom => 19,
             Error::StoreFull => 20,
+            Error::Unknown(_) => 0,
         }
     }
 
@@ -144,6 +149,7 @@ impl Error {
             Error::TooLong => "the unit is too long",
             Error::NoRoom => "no room for the packets",
             Error::StoreFull => "the store is full",
+            Error::Unknown(_) => "unknown number",
         }
     }
 }
@@ -155,12 +161,18 @@ impl fmt::Display for Error {
             Error::IncorrectPrefixBits { expected, actual } => {
                 write!(f, "prefix bits {actual:04b} where {expected:04b} are due")
             }
+            Error::Unknown(number) => write!(f, "the library gave the number {number}, which this crate does not know"),
             other => f.write_str(other.text()),
         }
     }
 }
 
 impl std::error::Error for Error {}
+
+/// A number that stands for nothing here.
+pub(crate) fn unknown(number: u64) -> Error {
+    Error::Unknown(number.try_into().unwrap_or(u32::MAX))
+}
 
 /// An answer that cannot be a refusal, because what was asked for was checked when its value was made.
 pub(crate) fn sure<T>(answer: Result<T, Error>) -> T {
@@ -184,8 +196,12 @@ mod tests {
     }
 
     #[test]
-    #[should_panic(expected = "number 21")]
-    fn no_other_number_is_taken() {
-        Error::from_word(21);
+    fn other_numbers_are_unknown() {
+        for number in 21..=255 {
+            let error = Error::from_word(number + 256 * 7).unwrap();
+            assert_eq!((error, error.number()), (Error::Unknown(number), 0));
+        }
+        let text = "the library gave the number 21, which this crate does not know";
+        assert_eq!(Error::Unknown(21).to_string(), text);
     }
 }

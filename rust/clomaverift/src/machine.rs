@@ -1,6 +1,6 @@
 //! The event machine of one stream, and the log that it writes.
 
-use crate::error::Error;
+use crate::error::{unknown, Error};
 use crate::ffi;
 use crate::packet::ContinuityCounter;
 use std::fmt;
@@ -13,6 +13,7 @@ const ENTRY: usize = 8;
 
 /// Where a machine is.
 #[derive(Clone, Copy, Debug, PartialEq, Eq)]
+#[non_exhaustive]
 pub enum Phase {
     /// No packet with the start flag was seen.
     Begin,
@@ -82,16 +83,18 @@ impl Machine {
     /// are then as they were after the last packet taken, so that the run can go on from there.
     ///
     /// ```
-    /// use clomaverift::{Error, Machine, Ran};
+    /// use clomaverift::{Error, Machine};
     ///
     /// let mut bytes = [0xFF; 2 * 188];
     /// bytes[..13].copy_from_slice(&[0x47, 0x41, 0, 0x10, 0, 0, 1, 0xE0, 0, 0, 0x80, 0, 0]);
     /// bytes[188] = 0x00; // where 47 hex is due
     /// let mut machine = Machine::new();
     /// let mut log = [0; 64];
-    /// assert_eq!(machine.run(&bytes, &mut log), Ok(Ran { packets: 1, ended: Some(Error::NoSync) }));
+    /// let ran = machine.run(&bytes, &mut log)?;
+    /// assert_eq!((ran.packets, ran.ended), (1, Some(Error::NoSync)));
     /// assert_eq!(machine.taken(), 1);
     /// assert_eq!(machine.events(&log).count(), 2);
+    /// # Ok::<(), Error>(())
     /// ```
     ///
     /// The run itself is refused with [`Error::WrongLength`] if the length of the bytes is not a multiple of 188; then with
@@ -159,6 +162,7 @@ impl fmt::Debug for Machine {
 /// What a run did.
 #[must_use = "a run may end before its last packet"]
 #[derive(Clone, Copy, Debug, PartialEq, Eq, Hash)]
+#[non_exhaustive]
 pub struct Ran {
     /// How many packets the run took.
     pub packets: u32,
@@ -167,8 +171,16 @@ pub struct Ran {
     pub ended: Option<Error>,
 }
 
+impl Ran {
+    /// A run of so many packets, and why it ended before its last one.
+    pub fn new(packets: u32, ended: Option<Error>) -> Ran {
+        Ran { packets, ended }
+    }
+}
+
 /// What happened.
 #[derive(Clone, Copy, Debug, PartialEq, Eq, Hash)]
+#[non_exhaustive]
 pub enum EventKind {
     /// The first packet with the start flag.
     StartStream = 1,
@@ -184,6 +196,7 @@ pub enum EventKind {
 
 /// An event of a stream.
 #[derive(Clone, Copy, Debug, PartialEq, Eq, Hash)]
+#[non_exhaustive]
 pub struct Event {
     /// What happened.
     pub kind: EventKind,
@@ -198,18 +211,24 @@ pub struct Event {
 impl Event {
     /// The entry at a place of a log. [`Error::OutOfRange`] where the log has none there, or the bytes are no entry.
     pub fn at(log: &[u8], at: usize) -> Result<Event, Error> {
-        ffi::log_entry_at(log, at).map(Event::of)
+        ffi::log_entry_at(log, at).and_then(Event::of)
     }
 
-    fn of([kind, index, place, length]: [u64; 4]) -> Event {
+    /// An event of the packet with this index, with the place and length of the payload.
+    pub fn new(kind: EventKind, index: u32, place: u8, length: u8) -> Event {
+        Event { kind, index, place, length }
+    }
+
+    fn of([kind, index, place, length]: [u64; 4]) -> Result<Event, Error> {
         let kind = match kind {
             1 => EventKind::StartStream,
             2 => EventKind::BeginPacket,
             3 => EventKind::ContinuePacket,
             4 => EventKind::EndPacket,
-            _ => EventKind::ContinuityError,
+            5 => EventKind::ContinuityError,
+            _ => return Err(unknown(kind)),
         };
-        Event { kind, index: index as u32, place: place as u8, length: length as u8 }
+        Ok(Event { kind, index: index as u32, place: place as u8, length: length as u8 })
     }
 
     /// The event's part of its packet: the payload, for a begin and a continue. Empty where the packet has no such part.
@@ -355,5 +374,6 @@ mod tests {
         let event = Event { kind: EventKind::BeginPacket, index: 0, place: 4, length: 2 };
         assert_eq!(event.bytes(&[0, 1, 2, 3, 4, 5]), [4, 5]);
         assert_eq!(event.bytes(&[0, 1, 2]), []);
+        assert_eq!(Event::of([6, 0, 0, 0]), Err(Error::Unknown(6)));
     }
 }

@@ -380,6 +380,7 @@ impl<'buf> Packet<'buf> {
 
 /// All that is read of a packet: each field is what the method of [`Packet`] with its name gives.
 #[derive(Clone, Copy, Debug, PartialEq, Eq)]
+#[non_exhaustive]
 pub struct PacketFields<'buf> {
     /// Whether an earlier receiver has marked the packet as damaged.
     pub transport_error_indicator: bool,

@@ -1,6 +1,6 @@
 //! PES headers, what they hold, and timestamps.
 
-use crate::error::{sure, Error};
+use crate::error::{sure, unknown, Error};
 use crate::ffi;
 use crate::packet::{byte, flag, part, ClockRef};
 use std::fmt;
@@ -79,7 +79,7 @@ impl StreamId {
 
     /// The id's number.
     pub fn number(&self) -> u8 {
-        self.kind + self.low
+        self.kind | self.low
     }
 
     /// Of an audio stream, its number: the low five bits of the id.
@@ -146,7 +146,8 @@ impl<'buf> PesHeader<'buf> {
         let rest = part(self.buf, [place, length]);
         match kind {
             0 => PesContents::Payload(rest),
-            _ => PesContents::Parsed(PesParsedContents::from_bytes(rest)),
+            1 => PesContents::Parsed(PesParsedContents::from_bytes(rest)),
+            _ => PesContents::Parsed(Err(unknown(kind))),
         }
     }
 
@@ -201,18 +202,19 @@ pub enum DsmTrickMode {
 }
 
 impl DsmTrickMode {
-    fn of([kind, first, second, third]: [u64; 4]) -> DsmTrickMode {
+    fn of([kind, first, second, third]: [u64; 4]) -> Result<DsmTrickMode, Error> {
         let first = first as u8;
         let intra_slice_refresh = second != 0;
-        let frequency_truncation = FrequencyTruncationCoefficientSelection::of(third);
-        match kind {
+        let frequency_truncation = FrequencyTruncationCoefficientSelection::of(third)?;
+        Ok(match kind {
             0 => DsmTrickMode::FastForward { field_id: first, intra_slice_refresh, frequency_truncation },
             1 => DsmTrickMode::SlowMotion { rep_cntrl: first },
             2 => DsmTrickMode::FreezeFrame { field_id: first, reserved: second as u8 },
             3 => DsmTrickMode::FastReverse { field_id: first, intra_slice_refresh, frequency_truncation },
             4 => DsmTrickMode::SlowReverse { rep_cntrl: first },
-            _ => DsmTrickMode::Reserved { reserved: first },
-        }
+            5 => DsmTrickMode::Reserved { reserved: first },
+            _ => return Err(unknown(kind)),
+        })
     }
 }
 
@@ -230,13 +232,14 @@ pub enum FrequencyTruncationCoefficientSelection {
 }
 
 impl FrequencyTruncationCoefficientSelection {
-    fn of(number: u64) -> FrequencyTruncationCoefficientSelection {
-        match number {
+    fn of(number: u64) -> Result<FrequencyTruncationCoefficientSelection, Error> {
+        Ok(match number {
             0 => FrequencyTruncationCoefficientSelection::DCNonZero,
             1 => FrequencyTruncationCoefficientSelection::FirstThreeNonZero,
             2 => FrequencyTruncationCoefficientSelection::FirstSixNonZero,
-            _ => FrequencyTruncationCoefficientSelection::AllMaybeNonZero,
-        }
+            3 => FrequencyTruncationCoefficientSelection::AllMaybeNonZero,
+            _ => return Err(unknown(number)),
+        })
     }
 }
 
@@ -358,7 +361,7 @@ impl<'buf> PesParsedContents<'buf> {
 
     /// The timestamps. [`Error::PtsDtsFlagsInvalid`] where the flags announce a DTS alone.
     pub fn pts_dts(&self) -> Result<PtsDts, Error> {
-        ffi::pes_contents_pts_dts(self.buf).map(PtsDts::of)
+        ffi::pes_contents_pts_dts(self.buf).and_then(PtsDts::of)
     }
 
     /// The elementary stream clock reference.
@@ -373,7 +376,7 @@ impl<'buf> PesParsedContents<'buf> {
 
     /// The trick mode.
     pub fn dsm_trick_mode(&self) -> Result<DsmTrickMode, Error> {
-        ffi::pes_contents_dsm_trick_mode(self.buf).map(DsmTrickMode::of)
+        ffi::pes_contents_dsm_trick_mode(self.buf).and_then(DsmTrickMode::of)
     }
 
     /// The trick mode's byte.
@@ -427,10 +430,10 @@ impl<'buf> PesParsedContents<'buf> {
             original_or_copy: OriginalOrCopy::of(row.numbers()),
             flags: byte(row.numbers()),
             pes_header_data_len: byte(row.numbers()),
-            pts_dts: row.answer().map(PtsDts::of),
+            pts_dts: row.answer().and_then(PtsDts::of),
             escr: row.answer().map(ClockRef::of),
             es_rate: row.answer().map(EsRate::of),
-            dsm_trick_mode: row.answer().map(DsmTrickMode::of),
+            dsm_trick_mode: row.answer().and_then(DsmTrickMode::of),
             raw_trick_mode: row.answer().map(byte),
             additional_copy_info: row.answer().map(byte),
             previous_pes_packet_crc: row.answer().map(PesParsedContents::crc),
@@ -442,6 +445,7 @@ impl<'buf> PesParsedContents<'buf> {
 
 /// All that is read of parsed contents: each field is what the method of [`PesParsedContents`] with its name gives.
 #[derive(Clone, Copy, Debug, PartialEq, Eq)]
+#[non_exhaustive]
 pub struct PesFields<'buf> {
     /// The scrambling bits of the payload.
     pub pes_scrambling_control: u8,
@@ -557,11 +561,12 @@ pub enum PtsDts {
 }
 
 impl PtsDts {
-    fn of([kind, pts_number, pts, dts_number, dts]: [u64; 5]) -> PtsDts {
+    fn of([kind, pts_number, pts, dts_number, dts]: [u64; 5]) -> Result<PtsDts, Error> {
         let pts = PtsDts::inner(pts_number, pts);
         match kind {
-            1 => PtsDts::PtsOnly(pts),
-            _ => PtsDts::Both { pts, dts: PtsDts::inner(dts_number, dts) },
+            1 => Ok(PtsDts::PtsOnly(pts)),
+            2 => Ok(PtsDts::Both { pts, dts: PtsDts::inner(dts_number, dts) }),
+            _ => Err(unknown(kind)),
         }
     }
 
@@ -569,7 +574,8 @@ impl PtsDts {
     fn inner(number: u64, value: u64) -> Result<Timestamp, Error> {
         match number {
             0 => Ok(Timestamp::of([value])),
-            _ => Err(Error::MarkerBitNotSet { bit_number: value as u8 }),
+            12 => Err(Error::MarkerBitNotSet { bit_number: value as u8 }),
+            _ => Err(unknown(number)),
         }
     }
 
@@ -722,6 +728,14 @@ mod tests {
         assert_eq!(mode(0b0101_1101), DsmTrickMode::FreezeFrame { field_id: 3, reserved: 5 });
         assert_eq!(mode(0b1001_1111), DsmTrickMode::SlowReverse { rep_cntrl: 4 });
         assert_eq!(mode(0b1110_0000), DsmTrickMode::Reserved { reserved: 7 });
+    }
+
+    #[test]
+    fn unknown_numbers_are_errors() {
+        assert_eq!(DsmTrickMode::of([6, 0, 0, 0]), Err(Error::Unknown(6)));
+        assert_eq!(DsmTrickMode::of([0, 0, 0, 4]), Err(Error::Unknown(4)));
+        assert_eq!(PtsDts::of([3, 0, 0, 0, 0]), Err(Error::Unknown(3)));
+        assert_eq!(PtsDts::of([1, 21, 0, 0, 0]), Ok(PtsDts::PtsOnly(Err(Error::Unknown(21)))));
     }
 
     #[test]

@@ -30,7 +30,7 @@ pub enum Times {
 /// The fields of a unit that is to be written. The library judges them as they are: [`Error::BadField`] exactly for a PID outside 16 to
 /// 8190, a counter above 15, a stream id below BC hex or of those that carry a bare payload, an unbounded length with an id outside E0
 /// to EF hex, a time or an ESCR base of 2^33 or more, an ESCR extension above 299, an ES rate of 0 or of 2^22 or more, and a copy info
-/// above 127.
+/// above 127. More fields may be added: a unit is made by [`Unit::new`] and the methods below, or by setting fields of such a unit.
 ///
 /// ```
 /// use clomaverift::{Times, Unit};
@@ -42,6 +42,7 @@ pub enum Times {
 /// # Ok::<(), clomaverift::Error>(())
 /// ```
 #[derive(Clone, Copy, Debug, PartialEq, Eq)]
+#[non_exhaustive]
 pub struct Unit {
     /// The PID of the packets.
     pub pid: u16,
@@ -99,24 +100,54 @@ impl Unit {
         Unit { counter, ..self }
     }
 
-    /// With no length in the header.
-    pub fn unbounded(self) -> Unit {
-        Unit { bounded: false, ..self }
+    /// With the length in the header, or without.
+    pub fn bounded(self, bounded: bool) -> Unit {
+        Unit { bounded, ..self }
     }
 
-    /// With the alignment bit.
+    /// With no length in the header.
+    pub fn unbounded(self) -> Unit {
+        self.bounded(false)
+    }
+
+    /// With this priority bit.
+    pub fn priority(self, priority: bool) -> Unit {
+        Unit { priority, ..self }
+    }
+
+    /// With this alignment bit.
+    pub fn alignment(self, alignment: bool) -> Unit {
+        Unit { alignment, ..self }
+    }
+
+    /// With the alignment bit set.
     pub fn aligned(self) -> Unit {
-        Unit { alignment: true, ..self }
+        self.alignment(true)
+    }
+
+    /// With this copyright bit.
+    pub fn copyright(self, copyright: bool) -> Unit {
+        Unit { copyright, ..self }
+    }
+
+    /// With this original bit.
+    pub fn original(self, original: bool) -> Unit {
+        Unit { original, ..self }
+    }
+
+    /// With these timestamps.
+    pub fn times(self, times: Times) -> Unit {
+        Unit { times, ..self }
     }
 
     /// With a PTS alone.
     pub fn pts(self, pts: u64) -> Unit {
-        Unit { times: Times::Pts(pts), ..self }
+        self.times(Times::Pts(pts))
     }
 
     /// With a PTS and a DTS.
     pub fn pts_dts(self, pts: u64, dts: u64) -> Unit {
-        Unit { times: Times::Both { pts, dts }, ..self }
+        self.times(Times::Both { pts, dts })
     }
 
     /// With an elementary stream clock reference.

@@ -94,6 +94,7 @@ fn plain(recording: &[u8]) -> (Vec<Told>, Vec<Told>) {
                 EventKind::ContinuityError => {
                     open.remove(&pid);
                 }
+                other => panic!("{other:?}"),
             }
         }
     }

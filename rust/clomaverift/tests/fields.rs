@@ -23,46 +23,29 @@ impl Rng {
     }
 }
 
-fn packet_singly<'buf>(packet: &Packet<'buf>) -> PacketFields<'buf> {
-    PacketFields {
-        transport_error_indicator: packet.transport_error_indicator(),
-        payload_unit_start_indicator: packet.payload_unit_start_indicator(),
-        transport_priority: packet.transport_priority(),
-        pid: packet.pid(),
-        continuity_counter: packet.continuity_counter(),
-        transport_scrambling_control: packet.transport_scrambling_control(),
-        adaptation_control: packet.adaptation_control(),
-        adaptation_field: packet.adaptation_field(),
-        payload: packet.payload(),
-    }
+/// Holds each field to the method of its name.
+macro_rules! assert_same {
+    ($fields:expr, $single:expr, $($name:ident),*) => { $(assert_eq!($fields.$name, $single.$name(), stringify!($name));)* };
 }
 
-fn contents_singly<'buf>(contents: &PesParsedContents<'buf>) -> PesFields<'buf> {
-    PesFields {
-        pes_scrambling_control: contents.pes_scrambling_control(),
-        pes_priority: contents.pes_priority(),
-        data_alignment_indicator: contents.data_alignment_indicator(),
-        copyright: contents.copyright(),
-        original_or_copy: contents.original_or_copy(),
-        flags: contents.flags(),
-        pes_header_data_len: contents.pes_header_data_len(),
-        pts_dts: contents.pts_dts(),
-        escr: contents.escr(),
-        es_rate: contents.es_rate(),
-        dsm_trick_mode: contents.dsm_trick_mode(),
-        raw_trick_mode: contents.raw_trick_mode(),
-        additional_copy_info: contents.additional_copy_info(),
-        previous_pes_packet_crc: contents.previous_pes_packet_crc(),
-        pes_extension: contents.pes_extension(),
-        payload: contents.payload(),
-    }
+fn check_packet(packet: &Packet<'_>, fields: &PacketFields<'_>) {
+    assert_same!(fields, packet, transport_error_indicator, payload_unit_start_indicator, transport_priority, pid);
+    assert_same!(fields, packet, continuity_counter, transport_scrambling_control, adaptation_control);
+    assert_same!(fields, packet, adaptation_field, payload);
+}
+
+fn check_contents(contents: &PesParsedContents<'_>, fields: &PesFields<'_>) {
+    assert_same!(fields, contents, pes_scrambling_control, pes_priority, data_alignment_indicator, copyright);
+    assert_same!(fields, contents, original_or_copy, flags, pes_header_data_len, pts_dts, escr, es_rate);
+    assert_same!(fields, contents, dsm_trick_mode, raw_trick_mode, additional_copy_info, previous_pes_packet_crc);
+    assert_same!(fields, contents, pes_extension, payload);
 }
 
 /// A packet's fields by one call, held to the single methods.
 fn packet_fields(bytes: &[u8]) -> PacketFields<'_> {
     let packet = Packet::try_new(bytes).unwrap();
     let fields = packet.fields();
-    assert_eq!(fields, packet_singly(&packet));
+    check_packet(&packet, &fields);
     fields
 }
 
@@ -73,7 +56,7 @@ fn header_fields(bytes: &[u8]) -> Option<PesFields<'_>> {
         PesContents::Payload(_) => return None,
     };
     let fields = contents.fields();
-    assert_eq!(fields, contents_singly(&contents));
+    check_contents(&contents, &fields);
     Some(fields)
 }
 

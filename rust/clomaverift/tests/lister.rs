@@ -12,6 +12,7 @@ fn line(event: Event) -> String {
         EventKind::ContinuePacket => "continue",
         EventKind::EndPacket => "end",
         EventKind::ContinuityError => "error",
+        other => panic!("{other:?}"),
     };
     format!("{} {name} {} {}", event.index, event.place, event.length)
 }
@@ -21,7 +22,7 @@ fn the_worked_example() {
     let mut machine = Machine::new();
     let mut log = vec![0; 16 * INPUT.len() / Packet::SIZE];
     let packets = (INPUT.len() / Packet::SIZE) as u32;
-    assert_eq!(machine.run(INPUT, &mut log), Ok(Ran { packets, ended: None }));
+    assert_eq!(machine.run(INPUT, &mut log), Ok(Ran::new(packets, None)));
     let mut lines = vec!["packet event place length".to_string()];
     lines.extend(machine.events(&log).map(|event| line(event.unwrap())));
     lines.push(format!("packets {}", machine.taken()));

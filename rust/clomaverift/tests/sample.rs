@@ -50,7 +50,7 @@ impl Seen {
             }
             Found::ContinuityError { index, .. } => self.breaks.push(index),
             Found::Clock { index, pcr, .. } => self.clocks.push((index, pcr)),
-            Found::StoreFull { .. } | Found::Refused { .. } => panic!("{found:?}"),
+            other => panic!("{other:?}"),
         }
     }
 }
@@ -117,7 +117,7 @@ fn rule(index: u64) -> Vec<EventKind> {
 fn a_run_logs_the_events_of_each_packet() {
     let mut machine = Machine::new();
     let mut log = [0; 16 * PACKETS];
-    assert_eq!(machine.run(SAMPLE, &mut log), Ok(Ran { packets: PACKETS as u32, ended: None }));
+    assert_eq!(machine.run(SAMPLE, &mut log), Ok(Ran::new(PACKETS as u32, None)));
     assert_eq!(machine.taken() as usize, PACKETS);
     let events: Vec<_> = machine.events(&log).map(Result::unwrap).collect();
     let told: Vec<_> = events.iter().map(|event| (u64::from(event.index), event.kind)).collect();

@@ -37,22 +37,20 @@ fn times(rng: &mut Rng) -> Times {
 fn unit(rng: &mut Rng) -> Unit {
     let ids = [0xBD, 0xC0, 0xDF, 0xE0, 0xEF, 0xFD];
     let id = ids[rng.below(6) as usize];
-    Unit {
-        pid: 16 + rng.below(8_175) as u16,
-        counter: rng.below(16) as u8,
-        id,
-        bounded: !(0xE0..=0xEF).contains(&id) || rng.flag(),
-        priority: rng.flag(),
-        alignment: rng.flag(),
-        copyright: rng.flag(),
-        original: rng.flag(),
-        times: times(rng),
-        escr: rng.maybe(|rng| (rng.below(1 << 33), rng.below(300) as u16)),
-        es_rate: rng.maybe(|rng| 1 + rng.below((1 << 22) - 1) as u32),
-        trick_mode: rng.maybe(|rng| rng.below(256) as u8),
-        copy_info: rng.maybe(|rng| rng.below(128) as u8),
-        crc: rng.maybe(|rng| rng.below(1 << 16) as u16),
-    }
+    let mut unit = Unit::new(16 + rng.below(8_175) as u16, id)
+        .counter(rng.below(16) as u8)
+        .bounded(!(0xE0..=0xEF).contains(&id) || rng.flag())
+        .priority(rng.flag())
+        .alignment(rng.flag())
+        .copyright(rng.flag())
+        .original(rng.flag())
+        .times(times(rng));
+    unit.escr = rng.maybe(|rng| (rng.below(1 << 33), rng.below(300) as u16));
+    unit.es_rate = rng.maybe(|rng| 1 + rng.below((1 << 22) - 1) as u32);
+    unit.trick_mode = rng.maybe(|rng| rng.below(256) as u8);
+    unit.copy_info = rng.maybe(|rng| rng.below(128) as u8);
+    unit.crc = rng.maybe(|rng| rng.below(1 << 16) as u16);
+    unit
 }
 
 /// The bytes of a unit's optional fields.
@@ -77,22 +75,20 @@ fn read_back(packets: &[u8]) -> Unit {
     };
     let clock = |clock: ClockRef| (clock.base(), clock.extension());
     let bit = |number: u8| contents_bit(&packet, number);
-    Unit {
-        pid: packet.pid().into(),
-        counter: packet.continuity_counter().count(),
-        id: header.stream_id().number(),
-        bounded: header.pes_packet_length() != clomaverift::PesLength::Unbounded,
-        priority: bit(3),
-        alignment: bit(2),
-        copyright: bit(1),
-        original: bit(0),
-        times: times_of(&contents),
-        escr: contents.escr().ok().map(clock),
-        es_rate: contents.es_rate().ok().map(u32::from),
-        trick_mode: contents.raw_trick_mode().ok(),
-        copy_info: contents.additional_copy_info().ok(),
-        crc: contents.previous_pes_packet_crc().ok(),
-    }
+    let mut unit = Unit::new(packet.pid().into(), header.stream_id().number())
+        .counter(packet.continuity_counter().count())
+        .bounded(header.pes_packet_length() != clomaverift::PesLength::Unbounded)
+        .priority(bit(3))
+        .alignment(bit(2))
+        .copyright(bit(1))
+        .original(bit(0))
+        .times(times_of(&contents));
+    unit.escr = contents.escr().ok().map(clock);
+    unit.es_rate = contents.es_rate().ok().map(u32::from);
+    unit.trick_mode = contents.raw_trick_mode().ok();
+    unit.copy_info = contents.additional_copy_info().ok();
+    unit.crc = contents.previous_pes_packet_crc().ok();
+    unit
 }
 
 /// A bit of the first byte after the six of the header.
