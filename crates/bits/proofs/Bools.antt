@@ -1,6 +1,6 @@
 -- Truth values: tests joined by `pick`, as definitions write 'and', 'and not' and 'not', and tests given as numbers.
 -- Assumes nothing.
-use mathlib.Core.Path.{_≡_, refl, sym}
+use mathlib.Core.Path.{_≡_, refl, sym, _∙_}
 use mathlib.Core.Bool.{Bool, true, false, _||_}
 use Prim.Native.Nat.{ℕ}
 use native.Mathlib.Omega.{arith}
@@ -13,6 +13,10 @@ false-true e = let z : _≡_ {A = ℕ} 0 1 = cc in absurd (omega arith)
 pub both : (a b : Bool) → pick a b false ≡ true → (a ≡ true) × (b ≡ true)
 both true b e = (refl, e)
 both false b e = false-true e
+
+pub not-both : (a b : Bool) → pick a b false ≡ false → a ≡ true → b ≡ false
+not-both true b e h = e
+not-both false b e h = false-true h
 
 -- b and not a
 pub and-not : (a b : Bool) → pick a false b ≡ true → (a ≡ false) × (b ≡ true)
@@ -27,6 +31,10 @@ not-not false e = false-true (sym e)
 pub pick-same : {A : Type 0} (t : Bool) (a : A) → pick t a a ≡ a
 pick-same true a = refl
 pick-same false a = refl
+
+-- what an answer r says, by how it was tested
+pub tested : (r s t : Bool) → r ≡ s → r ≡ t → s ≡ t
+tested r s t e f = sym e ∙ f
 
 -- a test given as 1 or 0
 pub is-true : (t : Bool) → 1 ≡ truth t → t ≡ true

@@ -12,7 +12,7 @@ use Rattle.log.specs.declared.Event.{Event}
 use Rattle.log.specs.Entry.{eventValues, readEntry}
 use Rattle.machine.specs.Run.{packetsIn, shifted}
 use Rattle.gather.specs.Belongs.{eventBytes}
-use Rattle.gather.specs.Gather.{eventGood, added, next, numberOf, gatherOf, storeOf}
+use Rattle.gather.specs.Gather.{wrongEvent, added, next, notGathered, numberOf, gatherOf, storeOf}
 use Rattle.gather.specs.Units.{Standing, packetOf, answered, called, gatherAll, answers, bytesAt, lastOf, Inside}
 use Rattle.capacity.specs.Reads.{begins, continues, upToBegin, Segment, segment, segments}
 use Rattle.capacity.specs.ReadBack.{none, eventRead, eventsRead, packetAt, call, afterCall, callNumbers, afterCalls}
@@ -50,11 +50,11 @@ module _ (d : ℕ) (bytes : List ℕ) (k : ℕ) (whole : length bytes ≡ 188 * 
 
   -- the gathering store does not look at an event's index
   called-shifted : (t : Standing) (e : Event) → afterCall d bytes t (shifted d e) ≡ called (packetsIn bytes) t e
-  unfolding gatherOf storeOf numberOf eventGood added next eventBytes
+  unfolding gatherOf storeOf numberOf notGathered wrongEvent added next eventBytes
   called-shifted t e = rw (packet-at e)
 
   number-shifted : (t : Standing) (e : Event) → call d bytes t (shifted d e) .number ≡ answered (packetsIn bytes) t e .number
-  unfolding gatherOf numberOf eventGood added next eventBytes
+  unfolding gatherOf numberOf notGathered wrongEvent added next eventBytes
   number-shifted t e = rw (packet-at e)
 
   -- call by call

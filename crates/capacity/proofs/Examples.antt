@@ -31,8 +31,7 @@ use Rattle.writer.specs.declared.Crc.{Crc}
 use Rattle.writer.specs.declared.Unit.{Unit}
 use Rattle.writer.specs.Unit.{dataOf, statedLength, countOf}
 use Rattle.writer.specs.Writer.{routeTests, unitTests, sizeTests, writeOf}
-use Rattle.gather.specs.Gather.{stateGood}
-use Rattle.gather.specs.Gather.{emptied}
+use Rattle.gather.specs.Gather.{emptied, wrongGathering}
 use Rattle.gather.specs.Units.{standing, bytesAt}
 use Rattle.capacity.specs.Reads.{upToBegin, segment, segments, HasFields, Delivers}
 use Rattle.capacity.specs.Demand.{Permitted, Accepts, countGiven, outputBytes, continuesOf, eventsWritten}
@@ -80,7 +79,7 @@ accepted-some = refl
 
 pub read-back-some : ReadBack way small (7 ∷ []) (countGiven way small (7 ∷ []) (replicate 188 0))
     (outputBytes way small (7 ∷ []) (replicate 188 0)) fresh (replicate 16 0) (standing emptied (0 ∷ []))
-unfolding stateGood writeOf routeTests unitTests sizeTests statedLength countOf dataOf parsedId eventsWritten continuesOf
+unfolding wrongGathering writeOf routeTests unitTests sizeTests statedLength countOf dataOf parsedId eventsWritten continuesOf
 read-back-some =
     read-back way small (7 ∷ []) (replicate 188 0) fresh (replicate 16 0) (standing emptied (0 ∷ [])) accepted-some
     (record { id-byte = omega arith; trick-byte = omega arith; crc-word = omega arith })

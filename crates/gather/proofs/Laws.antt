@@ -1,17 +1,21 @@
 -- What the definitions of `specs/` come to, in each case. The functions' proofs cite these.
 -- Assumes nothing.
 use mathlib.Core.Path.{_≡_, refl, sym, ap, _∙_}
-use mathlib.Core.Bool.{Bool, true, false}
-use mathlib.Core.List.{List, [], _∷_}
+use mathlib.Core.Bool.{Bool, true, false, _||_}
+use mathlib.Core.List.{List, [], _∷_, _++_}
 use Prim.Native.Nat.{ℕ, _+_, _-_, _≤_, _<_}
 use native.Mathlib.Omega.{arith}
 use types.Run.{OneOf, miss}
 use denote.Enum.Declared.{tagOf}
 use lib.ListN.{length, getD, take, drop}
-use lib.Dec.{eqb, leb}
-use borrow.Author.Tests.{lt-ltb, le-ltb, le-leb, lt-leb, leb-true, leb-false, eq-eqb, ne-eqb, eqb-true, eqb-false}
-use Rattle.bits.specs.Answer.{Answer, answer, pick, partAt, placedAt}
+use lib.Dec.{eqb, leb, ltb}
+use borrow.Author.Needs.{needs}
+use borrow.Author.Tests.{lt-ltb, le-ltb, ltb-true, ltb-false, leb-true, leb-false, eq-eqb, ne-eqb, eqb-true, eqb-false}
+use Rattle.bits.specs.Answer.{Answer, answer, pick, Check, firstOf, partAt, placedAt}
+use Rattle.bits.proofs.Bools.{both, not-both, tested, neither-holds}
+use Rattle.bits.proofs.Checks.{ne-other, eq-other, firstOf-first, firstOf-past}
 use Rattle.bits.proofs.Parts.{part-in, part-cut, part-length, part-of-part, part-refused, part-done, placed-none, placed-out}
+use Rattle.packet.specs.Packet.{notPacket}
 use Rattle.pes_header.specs.declared.PayloadRead.{PayloadRead}
 use Rattle.pes_header.specs.Payload.{givenPayload, headerPayload, payloadBytes}
 use Rattle.pes_header.proofs.PayloadRead.{the-type as payload-type}
@@ -24,8 +28,8 @@ use Rattle.gather.specs.declared.Gathering.{Gathering}
 use Rattle.gather.specs.declared.HeldRead.{HeldRead}
 use Rattle.gather.proofs.HeldRead.{the-type}
 use Rattle.gather.specs.Belongs.{eventBytes, ownPlace, ownBytes}
-use Rattle.gather.specs.Gather.{gathering, emptied, judged, eventGood, inPacket, stateGood, kept, added, next, numberOf, Outcome}
-use Rattle.gather.specs.Gather.{outcome, gatherOf, storeOf, givenHeld, readOf, lying, heldBytes, CallStands, moved}
+use Rattle.gather.specs.Gather.{gathering, emptied, wrongEvent, leavesPacket, wrongGathering, kept, added, next, notGathered, numberOf, Outcome}
+use Rattle.gather.specs.Gather.{outcome, gatherOf, storeOf, givenHeld, notRead, readOf, lying, heldBytes, CallStands, moved}
 
 -- ---- which bytes belong to a unit
 
@@ -47,103 +51,105 @@ module _ (xs : List ℕ) (r : PayloadRead) (g : givenPayload r ≡ headerPayload
       let w : p + n ≤ length xs = (rw (← e) at (payload-within xs)) refl in
       (rw (← e) refl, part-done (headerPayload xs) xs p n e (payload-within xs), w)
 
--- ---- what cannot be
+-- ---- what is refused
 
 module _ (e : Event) where
-  pub kind-none : e .kind < 1 → false ≡ eventGood e
-  unfolding eventGood
-  kind-none h = simp (lt-leb 1 (e .kind) h)
+  pub kind-none : e .kind < 1 → true ≡ wrongEvent e
+  unfolding wrongEvent
+  kind-none h = simp (lt-ltb (e .kind) 1 h)
 
-  pub kind-past : 5 < e .kind → false ≡ eventGood e
-  unfolding eventGood
-  kind-past h = simp (le-leb 1 (e .kind) (omega arith), lt-leb (e .kind) 5 h)
+  pub kind-past : 5 < e .kind → true ≡ wrongEvent e
+  unfolding wrongEvent
+  kind-past h = simp (le-ltb (e .kind) 1 (omega arith), lt-ltb 5 (e .kind) h)
 
-  pub part-tested : (1 ≤ e .kind) × (e .kind ≤ 5) → leb (e .place + e .length) 188 ≡ eventGood e
-  unfolding eventGood
-  part-tested h = simp (le-leb 1 (e .kind) (h .0), le-leb (e .kind) 5 (h .1))
+  pub part-tested : (1 ≤ e .kind) × (e .kind ≤ 5) → ltb 188 (e .place + e .length) ≡ wrongEvent e
+  unfolding wrongEvent
+  part-tested h = simp (le-ltb (e .kind) 1 (h .0), le-ltb 5 (e .kind) (h .1))
 
-  pub part-inside : eventGood e ≡ true → e .place + e .length ≤ 188
-  unfolding eventGood
-  part-inside = go (leb 1 (e .kind)) (leb (e .kind) 5) (leb (e .place + e .length) 188) (leb-true (e .place + e .length) 188)
-    where
-      go : {A : Type 0} (a b c : Bool) → (c ≡ true → A) → pick a (pick b c false) false ≡ true → A
-      go true true c f h = f h
-      go true false c f h = let z : _≡_ {A = ℕ} 0 1 = cc in absurd (omega arith)
-      go false b c f h = let z : _≡_ {A = ℕ} 0 1 = cc in absurd (omega arith)
+  -- what is known of an event that is not refused
+  pub event-stands : wrongEvent e ≡ false → (1 ≤ e .kind) × (e .kind ≤ 5) × (e .place + e .length ≤ 188)
+  unfolding wrongEvent
+  event-stands h =
+      let a = neither-holds (ltb (e .kind) 1 || ltb 5 (e .kind)) (ltb 188 (e .place + e .length)) h in
+      let b = neither-holds (ltb (e .kind) 1) (ltb 5 (e .kind)) (a .0) in
+      (ltb-false (e .kind) 1 (b .0), ltb-false 5 (e .kind) (b .1), ltb-false 188 (e .place + e .length) (a .1))
 
-  pub kind-known : eventGood e ≡ true → (1 ≤ e .kind) × (e .kind ≤ 5)
-  unfolding eventGood
-  kind-known = go (leb 1 (e .kind)) (leb (e .kind) 5) (leb (e .place + e .length) 188) (leb-true 1 (e .kind)) (leb-true (e .kind) 5)
-    where
-      go : {A B : Type 0} (a b c : Bool) → (a ≡ true → A) → (b ≡ true → B) → pick a (pick b c false) false ≡ true → A × B
-      go true true c f g h = (f refl, g refl)
-      go true false c f g h = let z : _≡_ {A = ℕ} 0 1 = cc in absurd (omega arith)
-      go false b c f g h = let z : _≡_ {A = ℕ} 0 1 = cc in absurd (omega arith)
+  pub part-inside : wrongEvent e ≡ false → e .place + e .length ≤ 188
+  part-inside h = event-stands h .2
 
 -- a bound moved to the other side
-moved-bound : (a n b : ℕ) → a ≤ b → leb n (b - a) ≡ leb (a + n) b
-moved-bound a n b h = go (leb n (b - a)) refl
+moved-bound : (a n b : ℕ) → a ≤ b → ltb (b - a) n ≡ ltb b (a + n)
+moved-bound a n b h = go (ltb (b - a) n) refl
   where
-    go : (t : Bool) → leb n (b - a) ≡ t → t ≡ leb (a + n) b
-    go true e = sym (le-leb (a + n) b (omega (arith, leb-true n (b - a) e)))
-    go false e = sym (lt-leb (a + n) b (omega (arith, leb-false n (b - a) e)))
-
-module _ (l : Lies) (a n : ℕ) (e : l ≡ Packet a) where
-  pub packet-past : 188 < a → false ≡ inPacket l n
-  packet-past h = rw (e, lt-leb (a + n) 188 (omega arith))
-
-  pub packet-tested : a ≤ 188 → leb n (188 - a) ≡ inPacket l n
-  packet-tested h = rw e (moved-bound a n 188 h)
+    go : (t : Bool) → ltb (b - a) n ≡ t → t ≡ ltb b (a + n)
+    go true e = sym (lt-ltb b (a + n) (omega (arith, ltb-true (b - a) n e)))
+    go false e = sym (le-ltb b (a + n) (omega (arith, ltb-false (b - a) n e)))
 
 module _ (g : Gathering) (room : ℕ) where
-  pub state-past : room < g .count → false ≡ stateGood g room
-  unfolding stateGood
-  state-past h = simp (lt-leb (g .count) room h)
+  pub past-store : room < g .count → true ≡ wrongGathering g room
+  unfolding wrongGathering
+  past-store h = simp (lt-ltb room (g .count) h)
 
-  pub state-tested : (b : Bool) → g .count ≤ room → b ≡ inPacket (g .lies) (g .count) → b ≡ stateGood g room
-  unfolding stateGood
-  state-tested b h e = simp (le-leb (g .count) room h) e
+  module _ (h : g .count ≤ room) where
+    in-store : leavesPacket (g .lies) (g .count) ≡ wrongGathering g room
+    unfolding wrongGathering
+    in-store = simp (le-ltb room (g .count) h)
 
-  -- what is known of a state that can be
-  pub state-inside : stateGood g room ≡ true → (g .count ≤ room) × (inPacket (g .lies) (g .count) ≡ true)
-  unfolding stateGood
-  state-inside = go (leb (g .count) room) (inPacket (g .lies) (g .count)) (leb-true (g .count) room)
-    where
-      go : {A : Type 0} (a b : Bool) → (a ≡ true → A) → pick a b false ≡ true → A × (b ≡ true)
-      go true b f h = (f refl, h)
-      go false b f h = let z : _≡_ {A = ℕ} 0 1 = cc in absurd (omega arith)
+    pub lies-in-store : g .lies ≡ Store → false ≡ wrongGathering g room
+    lies-in-store e = ap (λ (l : Lies). leavesPacket l (g .count)) (sym e) ∙ in-store
 
-module _ (p : List ℕ) (t : Bool) (n : ℕ) where
-  judged-length : (length p ≡ 188 → ⊥) → judged p t n ≡ 1
-  judged-length h = simp (ne-eqb (length p) 188 h)
+    module _ (a : ℕ) (e : g .lies ≡ Packet a) where
+      lies-in-packet : ltb 188 (a + g .count) ≡ wrongGathering g room
+      lies-in-packet = ap (λ (l : Lies). leavesPacket l (g .count)) (sym e) ∙ in-store
 
-  judged-sync : length p ≡ 188 → (getD p 0 0 ≡ 71 → ⊥) → judged p t n ≡ 2
-  judged-sync h k = simp (eq-eqb (length p) 188 h, ne-eqb (getD p 0 0) 71 k)
+      pub past-packet : 188 < a → true ≡ wrongGathering g room
+      past-packet k = sym (lt-ltb 188 (a + g .count) (omega arith)) ∙ lies-in-packet
 
-  judged-out : length p ≡ 188 → getD p 0 0 ≡ 71 → t ≡ false → judged p t n ≡ 14
-  judged-out h k e = simp (eq-eqb (length p) 188 h, eq-eqb (getD p 0 0) 71 k, e)
+      pub packet-tested : a ≤ 188 → ltb (188 - a) (g .count) ≡ wrongGathering g room
+      packet-tested k = moved-bound a (g .count) 188 k ∙ lies-in-packet
 
-  judged-in : length p ≡ 188 → getD p 0 0 ≡ 71 → t ≡ true → judged p t n ≡ n
-  judged-in h k e = simp (eq-eqb (length p) 188 h, eq-eqb (getD p 0 0) 71 k, e)
+  -- what is known of a state that is not refused, and the other way
+  pub gathering-stands : wrongGathering g room ≡ false → (g .count ≤ room) × (leavesPacket (g .lies) (g .count) ≡ false)
+  unfolding wrongGathering
+  gathering-stands h =
+      let a = neither-holds (ltb room (g .count)) (leavesPacket (g .lies) (g .count)) h in
+      (ltb-false room (g .count) (a .0), a .1)
+
+  pub stands-gathering : g .count ≤ room → leavesPacket (g .lies) (g .count) ≡ false → wrongGathering g room ≡ false
+  stands-gathering h k = sym (in-store h) ∙ k
+
+-- checks that come after those of the packet
+module _ (p : List ℕ) (cs : List Check) where
+  short-packet : (length p ≡ 188 → ⊥) → firstOf (notPacket p ++ cs) ≡ 1
+  unfolding notPacket
+  short-packet h = firstOf-first (notPacket p ++ cs) 0 tt (ne-other (length p) 188 h)
+
+  unsynced : length p ≡ 188 → (getD p 0 0 ≡ 71 → ⊥) → firstOf (notPacket p ++ cs) ≡ 2
+  unfolding notPacket
+  unsynced l h = firstOf-first (notPacket p ++ cs) 1 (eq-other (length p) 188 l, tt) (ne-other (getD p 0 0) 71 h)
+
+  past-packet-checks : length p ≡ 188 → getD p 0 0 ≡ 71 → firstOf (notPacket p ++ cs) ≡ firstOf cs
+  unfolding notPacket
+  past-packet-checks l h = firstOf-past (notPacket p) cs (eq-other (length p) 188 l, (eq-other (getD p 0 0) 71 h, tt))
 
 -- ---- the bytes so far
 
 module _ (g : Gathering) (p s : List ℕ) where
   pub read-length : (length p ≡ 188 → ⊥) → 1 ≡ readOf g p s
-  unfolding readOf
-  read-length h = sym (judged-length p (stateGood g (length s)) 0 h)
+  unfolding readOf notRead
+  read-length h = sym (short-packet p _ h)
 
   pub read-sync : length p ≡ 188 → (getD p 0 0 ≡ 71 → ⊥) → 2 ≡ readOf g p s
-  unfolding readOf
-  read-sync h k = sym (judged-sync p (stateGood g (length s)) 0 h k)
+  unfolding readOf notRead
+  read-sync l h = sym (unsynced p _ l h)
 
-  pub read-out : length p ≡ 188 → getD p 0 0 ≡ 71 → stateGood g (length s) ≡ false → 14 ≡ readOf g p s
-  unfolding readOf
-  read-out h k e = sym (judged-out p _ 0 h k e)
+  pub read-out : length p ≡ 188 → getD p 0 0 ≡ 71 → wrongGathering g (length s) ≡ true → 14 ≡ readOf g p s
+  unfolding readOf notRead
+  read-out l h e = sym (past-packet-checks p _ l h ∙ rw e)
 
-  pub read-done : length p ≡ 188 → getD p 0 0 ≡ 71 → stateGood g (length s) ≡ true → 0 ≡ readOf g p s
-  unfolding readOf
-  read-done h k e = sym (judged-in p _ 0 h k e)
+  pub read-done : length p ≡ 188 → getD p 0 0 ≡ 71 → wrongGathering g (length s) ≡ false → 0 ≡ readOf g p s
+  unfolding readOf notRead
+  read-done l h e = sym (past-packet-checks p _ l h ∙ rw e)
 
   pub bytes-refused : (readOf g p s ≡ 0 → ⊥) → [] ≡ heldBytes g p s
   unfolding heldBytes
@@ -214,17 +220,9 @@ module _ (g : Gathering) (e : Event) where
       go true = omega arith
       go false = omega arith
 
--- whether it is a continue of an open unit
-module _ (k : ℕ) (o : Bool) where
-  pub extends-true : pick (eqb k 3) o false ≡ true → (k ≡ 3) × (o ≡ true)
-  extends-true = go (eqb k 3) (eqb-true k 3)
-    where
-      go : {A : Type 0} (t : Bool) → (t ≡ true → A) → pick t o false ≡ true → A × (o ≡ true)
-      go true f h = (f refl, h)
-      go false f h = let z : _≡_ {A = ℕ} 0 1 = cc in absurd (omega arith)
-
-  pub extends-false : pick (eqb k 3) o false ≡ false → k ≡ 3 → o ≡ false
-  extends-false z e = rw (eq-eqb k 3 e) at z
+-- a continue of an open unit
+pub extends-true : (k : ℕ) (o : Bool) → pick (eqb k 3) o false ≡ true → (k ≡ 3) × (o ≡ true)
+extends-true k o h = let a = both (eqb k 3) o h in (eqb-true k 3 (a .0), a .1)
 
 -- the bytes that an event names are a part of its packet
 pub event-part : (p : List ℕ) (e : Event) → length p ≡ 188 → e .place + e .length ≤ 188 → eventBytes p e ≡ partAt (e .place) (e .length) p
@@ -253,10 +251,10 @@ module _ (g : Gathering) (p : List ℕ) (e : Event) where
   added-rest b z = go (eqb (e .kind) 3) refl
     where
       go : (t : Bool) → eqb (e .kind) 3 ≡ t → [] ≡ added g p e
-      go true f = let k = eqb-true (e .kind) 3 f in added-closed k (extends-false (e .kind) (g .opened) z k)
+      go true f = let k = eqb-true (e .kind) 3 f in added-closed k (not-both (eqb (e .kind) 3) (g .opened) z f)
       go false f = added-none b (eqb-false (e .kind) 3 f)
 
-  module _ (l : length p ≡ 188) (i : eventGood e ≡ true) where
+  module _ (l : length p ≡ 188) (i : wrongEvent e ≡ false) where
     -- as the borrow checker has the bytes of a begin
     pub adds-begin : (a n : ℕ) → e .kind ≡ 2 → Own (take (e .place + e .length - e .place) (drop (e .place) p)) a n
         → Adds g p e 0 (e .place + a) n
@@ -294,22 +292,22 @@ module _ (g : Gathering) (p : List ℕ) (e : Event) (s : List ℕ) where
   refused n z a b = simp (z, a, b) (refl, refl)
 
   pub wrong-length : (length p ≡ 188 → ⊥) → Meets g p e s (outcome 1 g) s
-  unfolding numberOf
-  wrong-length h = refused 1 (judged-length p (pick (eventGood e) (stateGood g (length s)) false) _ h) refl refl
+  unfolding numberOf notGathered
+  wrong-length h = refused 1 (short-packet p _ h) refl refl
 
   module _ (l : length p ≡ 188) where
     pub no-sync : (getD p 0 0 ≡ 71 → ⊥) → Meets g p e s (outcome 2 g) s
-    unfolding numberOf
-    no-sync h = refused 2 (judged-sync p (pick (eventGood e) (stateGood g (length s)) false) _ l h) refl refl
+    unfolding numberOf notGathered
+    no-sync h = refused 2 (unsynced p _ l h) refl refl
 
     module _ (y : getD p 0 0 ≡ 71) where
-      pub bad-event : eventGood e ≡ false → Meets g p e s (outcome 14 g) s
-      unfolding numberOf
-      bad-event h = refused 14 (judged-out p (pick (eventGood e) (stateGood g (length s)) false) _ l y (rw h)) refl refl
+      pub bad-event : wrongEvent e ≡ true → Meets g p e s (outcome 14 g) s
+      unfolding numberOf notGathered
+      bad-event h = refused 14 (past-packet-checks p _ l y ∙ rw h) refl refl
 
-      pub bad-state : eventGood e ≡ true → stateGood g (length s) ≡ false → Meets g p e s (outcome 14 g) s
-      unfolding numberOf
-      bad-state h k = refused 14 (judged-out p (pick (eventGood e) (stateGood g (length s)) false) _ l y (rw (h, k))) refl refl
+      pub bad-gathering : wrongEvent e ≡ false → wrongGathering g (length s) ≡ true → Meets g p e s (outcome 14 g) s
+      unfolding numberOf notGathered
+      bad-gathering h k = refused 14 (past-packet-checks p _ l y ∙ rw (h, k)) refl refl
 
   -- the state after it is one, by the bytes that the unit then has
   pub moved-next : (a : ℕ) → (e .kind ≡ 2 → a ≡ e .place + ownPlace (eventBytes p e))
@@ -341,19 +339,16 @@ module _ (g : Gathering) (p : List ℕ) (e : Event) (s : List ℕ) where
       go false false f₂ false f₃ false f₄ = refl
 
   module _ (h : CallStands g p e s) where
-    good : pick (eventGood e) (stateGood g (length s)) false ≡ true
-    good = rw (h .2, h .3)
-
     number-full : length s < kept g e + length (added g p e) → numberOf g p e s ≡ 20
-    unfolding numberOf
-    number-full k = judged-in p _ _ (h .0) (h .1) good ∙ rw (lt-ltb (length s) (kept g e + length (added g p e)) k)
+    unfolding numberOf notGathered
+    number-full k = past-packet-checks p _ (h .0) (h .1) ∙ rw (h .2, h .3, lt-ltb (length s) (kept g e + length (added g p e)) k)
 
     pub number-done : kept g e + length (added g p e) ≤ length s → numberOf g p e s ≡ 0
-    unfolding numberOf
-    number-done k = judged-in p _ _ (h .0) (h .1) good ∙ rw (le-ltb (length s) (kept g e + length (added g p e)) k)
+    unfolding numberOf notGathered
+    number-done k = past-packet-checks p _ (h .0) (h .1) ∙ rw (h .2, h .3, le-ltb (length s) (kept g e + length (added g p e)) k)
 
     pub kept-inside : kept g e ≤ length s
-    kept-inside = omega (arith, kept-least g e, state-inside g (length s) (h .3) .0)
+    kept-inside = omega (arith, kept-least g e, gathering-stands g (length s) (h .3) .0)
 
     pub full : length s < kept g e + length (added g p e) → Meets g p e s (outcome 20 emptied) s
     unfolding gatherOf storeOf
@@ -369,7 +364,7 @@ module _ (g : Gathering) (p : List ℕ) (e : Event) (s : List ℕ) where
       → g′ ≡ moved g (e .kind) (g .count) 0
       → Meets g p e s o s
   apply-none h b j o g′ y m =
-      let l : g .count ≤ length s = state-inside g (length s) (h .3) .0 in
+      let l : g .count ≤ length s = gathering-stands g (length s) (h .3) .0 in
       let c : kept g e + length (added g p e) ≡ g .count = rw (← j) (omega (arith, kept-other g e b)) in
       let n = ap (λ (n : ℕ). moved g (e .kind) n 0) (sym c) ∙ moved-next 0 (λ z. absurd (b z)) in
       let t = taken g′ s (number-done h (omega arith)) (m ∙ n) (rw (← j) (placed-none s (kept g e))) in
@@ -399,3 +394,5 @@ module _ (g : Gathering) (p : List ℕ) (e : Event) (s : List ℕ) where
         let n : moved g (e .kind) c a ≡ next g p e = rw (i, d .0, ← added-size) (moved-next a (d .3)) in
         let t = taken g′ s′ (number-done h (omega (arith, added-size, room z))) (m ∙ n) (r .1 ∙ rw (d .0, x, d .1)) in
         (y ∙ t .0, t .1)
+
+pub ruleset gather-laws = (kind-none, kind-past, part-tested, past-store, lies-in-store, past-packet, packet-tested, read-length, read-sync, read-out, read-done, tested, needs)

@@ -8,10 +8,12 @@ use native.Mathlib.Omega.{arith}
 use lib.Dec.{eqb, leb, ltb}
 use lib.ListN.{length, getD, take, drop, length-drop, length-append}
 use lib.Seq.{length-take-le}
-use borrow.Author.Tests.{le-leb, leb-true, leb-false, ltb-false, ne-eqb, eqb-true, eqb-false}
+use borrow.Author.Tests.{le-ltb, leb-true, leb-false, ltb-false, ne-eqb, eqb-true, eqb-false}
 use Rattle.bits.specs.Answer.{pick, partAt, placedAt, partOf, All}
+use Rattle.bits.proofs.Checks.{firstOf-off}
 use Rattle.bits.proofs.Parts.{part-in, part-length, part-of-part, length-placed, placed-take, placed-before, placed-after, placed-none}
 use Rattle.bits.proofs.Tests.{one-answer}
+use Rattle.packet.specs.Packet.{notPacket}
 use Rattle.pes_header.specs.Payload.{headerPayload, payloadBytes}
 use Rattle.pes_header.proofs.Theorems.{payload-within}
 use Rattle.log.specs.declared.Event.{Event}
@@ -21,13 +23,13 @@ use Rattle.gather.specs.declared.Gathered.{Gathered}
 use Rattle.gather.specs.declared.HeldRead.{HeldRead}
 use Rattle.gather.specs.declared.Verdict.{Verdict}
 use Rattle.gather.specs.Belongs.{eventBytes, ownPlace, ownBytes}
-use Rattle.gather.specs.Gather.{gathering, emptied, eventGood, inPacket, stateGood, kept, added, next, numberOf, Outcome}
+use Rattle.gather.specs.Gather.{gathering, emptied, wrongEvent, wrongGathering, kept, added, next, notGathered, numberOf, Outcome}
 use Rattle.gather.specs.Gather.{verdictNumber, given, gatherOf, storeOf, givenHeld, heldBytes, CallStands}
 use Rattle.gather.specs.Units.{Standing, standing, packetOf, answered, called, gatherAll, answers, readAt, bytesAt, bytesAtAll}
 use Rattle.gather.specs.Units.{unitBytes, lastOf}
 use Rattle.machine.specs.Run.{IsPacket}
 use Rattle.gather.specs.Units.{Inside, GatheringStands, Kind, Known, NoBegin, Taken, Open}
-use Rattle.gather.proofs.Laws.{part-tested, state-tested, state-inside, read-done, bytes-are, event-part, added-begin, added-open}
+use Rattle.gather.proofs.Laws.{part-tested, stands-gathering, gathering-stands, read-done, bytes-are, event-part, added-begin, added-open}
 use Rattle.gather.proofs.Laws.{added-closed, added-none, kept-begin, kept-other, number-done, full, taken}
 
 -- ---- one answer only: any two answers that meet a function's promise are equal
@@ -82,20 +84,10 @@ one-new a b h k = h ∙ sym k
 module _ (g : Gathering) (p : List ℕ) (e : Event) (s : List ℕ) where
   -- a call that is answered by 0 has room for what it adds
   room-there : numberOf g p e s ≡ 0 → kept g e + length (added g p e) ≤ length s
-  unfolding numberOf
+  unfolding numberOf notGathered notPacket
   room-there z =
-      let t = pick (eventGood e) (stateGood g (length s)) false in
-      ltb-false (length s) n (go (eqb (length p) 188) (eqb (getD p 0 0) 0x47) t (ltb (length s) n) z)
-    where
-      n : ℕ
-      n = kept g e + length (added g p e)
-
-      go : (a b c d : Bool) → _≡_ {A = ℕ} (pick a (pick b (pick c (pick d 20 0) 14) 2) 1) 0 → d ≡ false
-      go true true true true z = absurd (omega arith)
-      go true true true false z = refl
-      go true true false d z = absurd (omega arith)
-      go true false c d z = absurd (omega arith)
-      go false b c d z = absurd (omega arith)
+      let h = firstOf-off (notGathered g p e s) (omega arith, (omega arith, (omega arith, (omega arith, (omega arith, tt))))) z in
+      ltb-false (length s) (kept g e + length (added g p e)) (h .1 .1 .1 .1 .0)
 
   pub only-added : (length (storeOf g p e s) ≡ length s)
       × ((i : ℕ) → i < kept g e → getD (storeOf g p e s) i 0 ≡ getD s i 0)
@@ -153,11 +145,8 @@ packet-there [] i a h = absurd (omega arith)
 packet-there (p ∷ ps) zero a h = a .0
 packet-there (p ∷ ps) (suc i) a h = packet-there ps i (a .1) (omega arith)
 
-event-good : (e : Event) → Known e → e .place + e .length ≤ 188 → eventGood e ≡ true
-event-good e k h = sym (part-tested e k) ∙ le-leb (e .place + e .length) 188 h
-
-state-good : (g : Gathering) (n : ℕ) → g .count ≤ n → inPacket (g .lies) (g .count) ≡ true → stateGood g n ≡ true
-state-good g n h k = sym (state-tested g n true h (sym k))
+event-good : (e : Event) → Known e → e .place + e .length ≤ 188 → wrongEvent e ≡ false
+event-good e k h = sym (part-tested e k) ∙ le-ltb 188 (e .place + e .length) h
 
 module _ (ps : List (List ℕ)) (all : All IsPacket ps) (t : Standing) (e : Event) (k : Known e) (i : Inside ps e) (ok : GatheringStands t) where
   possible : CallStands (t .gathering) (packetOf ps e) e (t .store)
@@ -199,7 +188,7 @@ read-store : (p s u : List ℕ) (o : Bool) → IsPacket p → length u ≤ lengt
     → u ≡ heldBytes (gathering o (length u) Store) p s
 read-store p s u o q h f =
     let g = gathering o (length u) Store in
-    let z = read-done g p s (q .0) (q .1) (state-good g (length s) h refl) in
+    let z = read-done g p s (q .0) (q .1) (stands-gathering g (length s) h refl) in
     bytes-are g p s Store u (sym z) refl (sym f ∙ part-in 0 (length u) s (omega arith))
 
 -- what belongs to a unit, as a part of its begin's packet
@@ -237,7 +226,7 @@ module _ (ps : List (List ℕ)) (all : All IsPacket ps) (t : Standing) (e : Even
       let l : length s ≡ length (t .store) = length-placed (t .store) 0 u in
       let z : 0 + length u ≡ length u = omega arith in
       let v : take (length u) s ≡ u = rw z at (placed-take (t .store) 0 u (omega arith)) in
-      let y : GatheringStands (standing g s) = state-good g _ (omega arith) (le-leb (a + length u) 188 (o .0)) in (
+      let y : GatheringStands (standing g s) = stands-gathering g _ (omega arith) (le-ltb 188 (a + length u) (o .0)) in (
         c .0,
         rw f (record { opened = refl; count = refl; room = l; stored = v; good = y }),
         ap (λ (x : Standing). x .gathering .lies) f,
@@ -265,7 +254,7 @@ module _ (ps : List (List ℕ)) (all : All IsPacket ps) (t : Standing) (e : Even
       let l : length s ≡ length (t .store) = length-placed (t .store) (length u) x in
       let b : take (length u + length x) s ≡ u ++ x = placed-take (t .store) (length u) x r ∙ ap (λ (z : List ℕ). z ++ x) (w .stored) in
       let v : take (length (u ++ x)) s ≡ u ++ x = rw (← m) b in
-      let y : GatheringStands (standing g s) = state-good g _ (omega arith) refl in (
+      let y : GatheringStands (standing g s) = stands-gathering g _ (omega arith) refl in (
         c .0,
         rw f (record { opened = refl; count = refl; room = l ∙ w .room; stored = v; good = y }),
         ap (λ (z : Standing). z .gathering .lies) f,
@@ -277,7 +266,7 @@ module _ (ps : List (List ℕ)) (all : All IsPacket ps) (t : Standing) (e : Even
       → (answered ps t e .number ≡ 0) × (called ps t e ≡ standing (next (t .gathering) (packetOf ps e) e) (t .store))
   nothing-added k ok b j =
       let d : kept (t .gathering) e ≡ t .gathering .count = kept-other (t .gathering) e b in
-      let r : t .gathering .count ≤ length (t .store) = state-inside (t .gathering) (length (t .store)) ok .0 in
+      let r : t .gathering .count ≤ length (t .store) = gathering-stands (t .gathering) (length (t .store)) ok .0 in
       let c = accepted ps all t e k i ok (rw (d, ← j) (omega arith)) in
       (c .0, c .1 ∙ rw (d, ← j, ← placed-none (t .store) (t .gathering .count)))
 
@@ -387,7 +376,7 @@ module _ (p : List ℕ) (e : Event) where
       go false false false = refl
 
 fresh-good : (s : List ℕ) → GatheringStands (standing emptied s)
-fresh-good s = state-good emptied (length s) (omega arith) refl
+fresh-good s = stands-gathering emptied (length s) (omega arith) refl
 
 module _ (ps : List (List ℕ)) (all : All IsPacket ps) where
   pub closed-stays : (s : List ℕ) (es : List Event) → All NoBegin es → All (Inside ps) es
@@ -413,31 +402,31 @@ module _ (ps : List (List ℕ)) (all : All IsPacket ps) where
 
 -- ---- whatever was refused by 20, a state that lies in its store and packet stays such
 
-next-good : (g : Gathering) (p : List ℕ) (e : Event) (n : ℕ) → Known e → length p ≡ 188 → e .place + e .length ≤ 188 → stateGood g n ≡ true
-    → kept g e + length (added g p e) ≤ n → stateGood (next g p e) n ≡ true
+next-good : (g : Gathering) (p : List ℕ) (e : Event) (n : ℕ) → Known e → length p ≡ 188 → e .place + e .length ≤ 188 → wrongGathering g n ≡ false
+    → kept g e + length (added g p e) ≤ n → wrongGathering (next g p e) n ≡ false
 next-good g p e n k l h ok r = go (eqb (e .kind) 1) refl (eqb (e .kind) 2) refl (eqb (e .kind) 3) refl (eqb (e .kind) 4) refl
   where
     o : g .count ≤ n
-    o = state-inside g n ok .0
+    o = gathering-stands g n ok .0
 
     go : (t₁ : Bool) → eqb (e .kind) 1 ≡ t₁ → (t₂ : Bool) → eqb (e .kind) 2 ≡ t₂
-        → (t₃ : Bool) → eqb (e .kind) 3 ≡ t₃ → (t₄ : Bool) → eqb (e .kind) 4 ≡ t₄ → stateGood (next g p e) n ≡ true
+        → (t₃ : Bool) → eqb (e .kind) 3 ≡ t₃ → (t₄ : Bool) → eqb (e .kind) 4 ≡ t₄ → wrongGathering (next g p e) n ≡ false
     go true f₁ t₂ f₂ t₃ f₃ t₄ f₄ = rw (next-start g p e (eqb-true (e .kind) 1 f₁)) ok
     go false f₁ true f₂ t₃ f₃ t₄ f₄ =
         let q : e .kind ≡ 2 = eqb-true (e .kind) 2 f₂ in
         let i = own-in-packet p e l h in
         let m : length (ownBytes (eventBytes p e)) ≤ n = rw (added-begin g p e q) (omega arith) in
         let a = e .place + ownPlace (eventBytes p e) in
-        rw (next-begin g p e q) (state-good _ n m (le-leb (a + length (ownBytes (eventBytes p e))) 188 (i .0)))
+        rw (next-begin g p e q) (stands-gathering _ n m (le-ltb 188 (a + length (ownBytes (eventBytes p e))) (i .0)))
     go false f₁ false f₂ true f₃ t₄ f₄ =
         let q : e .kind ≡ 3 = eqb-true (e .kind) 3 f₃ in
         let b : kept g e ≡ g .count = kept-other g e (λ z. omega arith) in
-        rw (next-continue g p e q) (state-good _ n (omega arith) refl)
-    go false f₁ false f₂ false f₃ true f₄ = rw (next-end g p e (eqb-true (e .kind) 4 f₄)) (state-good _ n o refl)
+        rw (next-continue g p e q) (stands-gathering _ n (omega arith) refl)
+    go false f₁ false f₂ false f₃ true f₄ = rw (next-end g p e (eqb-true (e .kind) 4 f₄)) (stands-gathering _ n o refl)
     go false f₁ false f₂ false f₃ false f₄ =
         let no = eqb-false (e .kind) in
         let q : e .kind ≡ 5 = omega (arith, no 1 f₁, no 2 f₂, no 3 f₃, no 4 f₄) in
-        rw (next-break g p e q) (state-good emptied n (omega arith) refl)
+        rw (next-break g p e q) (stands-gathering emptied n (omega arith) refl)
 
 module _ (ps : List (List ℕ)) (all : All IsPacket ps) where
   pub stays-good : (t : Standing) (e : Event) → Known e → Inside ps e → GatheringStands t
@@ -451,7 +440,7 @@ module _ (ps : List (List ℕ)) (all : All IsPacket ps) where
           → GatheringStands (called ps t e) × (length (called ps t e .store) ≡ length (t .store))
       same s f h =
           let room : Standing → ℕ = λ z. length (z .store) in
-          (ap (λ (z : Standing). stateGood (z .gathering) (room z)) f ∙ h .0, ap room f ∙ h .1)
+          (ap (λ (z : Standing). wrongGathering (z .gathering) (room z)) f ∙ h .0, ap room f ∙ h .1)
 
       go : (b : Bool) → leb (kept (t .gathering) e + length (added (t .gathering) (packetOf ps e) e)) (length (t .store)) ≡ b
           → GatheringStands (called ps t e) × (length (called ps t e .store) ≡ length (t .store))

@@ -1,12 +1,13 @@
 -- The gathering store: what a call answers, the state after it, and the store's bytes.
 use mathlib.Core.Path.{_≡_}
-use mathlib.Core.Bool.{Bool, true, false}
-use mathlib.Core.List.{List, []}
+use mathlib.Core.Bool.{Bool, true, false, _||_}
+use mathlib.Core.List.{List, [], _∷_, _++_}
 use Prim.Native.Nat.{ℕ, _+_}
-use lib.Dec.{eqb, leb, ltb}
+use lib.Dec.{eqb, ltb}
 use lib.ListN.{length, getD}
-use Rattle.bits.specs.Answer.{pick, placedAt, partAt}
+use Rattle.bits.specs.Answer.{pick, Check, _gives_, firstOf, placedAt, partAt}
 use Rattle.bits.specs.Numbers.{done, wrongLength, noSync, outOfRange, storeFull}
+use Rattle.packet.specs.Packet.{notPacket}
 use Rattle.log.specs.declared.Event.{Event}
 use Rattle.log.specs.Entry.{startStream, beginPacket, continuePacket, endPacket, continuityError}
 use Rattle.gather.specs.declared.Lies.{Lies}
@@ -24,29 +25,20 @@ gathering o n l = record { opened = o; count = n; lies = l }
 abbrev pub emptied : Gathering
 emptied = gathering false 0 Store
 
--- ---- what cannot be
+-- ---- what is refused
 
--- 1 and 2, then 14 where the test fails, else what is asked
-abbrev pub judged : List ℕ → Bool → ℕ → ℕ
-judged p t n =
-    pick (eqb (length p) 188)
-    (pick (eqb (getD p 0 0) 0x47)
-    (pick t n outOfRange)
-    noSync)
-    wrongLength
+-- an event of no kind 1 to 5, or whose part leaves the packet
+unfoldable pub wrongEvent : Event → Bool
+wrongEvent e = ltb (e .kind) startStream || ltb continuityError (e .kind) || ltb 188 (e .place + e .length)
 
--- an event has a kind 1 to 5, and its part lies in a packet
-unfoldable pub eventGood : Event → Bool
-eventGood e = pick (leb startStream (e .kind)) (pick (leb (e .kind) continuityError) (leb (e .place + e .length) 188) false) false
+-- so many bytes leave the packet, where they lie there
+abbrev pub leavesPacket : Lies → ℕ → Bool
+leavesPacket (Packet a) n = ltb 188 (a + n)
+leavesPacket Store n = false
 
--- so many bytes of a state lie within a packet, where they lie there
-abbrev pub inPacket : Lies → ℕ → Bool
-inPacket (Packet a) n = leb (a + n) 188
-inPacket Store n = true
-
--- the bytes of a state lie in a store of so many bytes, and in the packet where they lie there
-unfoldable pub stateGood : Gathering → ℕ → Bool
-stateGood g room = pick (leb (g .count) room) (inPacket (g .lies) (g .count)) false
+-- a state whose bytes leave a store of so many bytes, or the packet where they lie there
+unfoldable pub wrongGathering : Gathering → ℕ → Bool
+wrongGathering g room = ltb room (g .count) || leavesPacket (g .lies) (g .count)
 
 -- ---- what an event does
 
@@ -75,10 +67,16 @@ next g p e =
 -- ---- a call
 
 -- 1, 2, 14, 20 in this order: 20 where the unit would exceed the store
+unfoldable pub notGathered : Gathering → List ℕ → Event → List ℕ → List Check
+notGathered g p e s =
+    notPacket p ++ (
+    wrongEvent e gives outOfRange
+    ∷ wrongGathering g (length s) gives outOfRange
+    ∷ ltb (length s) (kept g e + length (added g p e)) gives storeFull
+    ∷ [])
+
 unfoldable pub numberOf : Gathering → List ℕ → Event → List ℕ → ℕ
-numberOf g p e s =
-    judged p (pick (eventGood e) (stateGood g (length s)) false)
-    (pick (ltb (length s) (kept g e + length (added g p e))) storeFull done)
+numberOf g p e s = firstOf (notGathered g p e s)
 
 -- an answer's number and the state after it
 pub record Outcome : Type 0 where
@@ -117,8 +115,12 @@ givenHeld HeldRead.WrongLength = wrongLength
 givenHeld HeldRead.NoSync = noSync
 givenHeld HeldRead.OutOfRange = outOfRange
 
+-- 1, 2, 14 in this order
+unfoldable pub notRead : Gathering → List ℕ → List ℕ → List Check
+notRead g p s = notPacket p ++ (wrongGathering g (length s) gives outOfRange ∷ [])
+
 unfoldable pub readOf : Gathering → List ℕ → List ℕ → ℕ
-readOf g p s = judged p (stateGood g (length s)) done
+readOf g p s = firstOf (notRead g p s)
 
 -- out of the packet after a begin, otherwise out of the store
 abbrev pub lying : Lies → ℕ → List ℕ → List ℕ → List ℕ
@@ -133,7 +135,7 @@ heldBytes g p s = pick (eqb (readOf g p s) done) (lying (g .lies) (g .count) p s
 
 -- neither 1, 2 nor 14
 abbrev pub CallStands : Gathering → List ℕ → Event → List ℕ → Type 0
-CallStands g p e s = (length p ≡ 188) × (getD p 0 0 ≡ 0x47) × (eventGood e ≡ true) × (stateGood g (length s) ≡ true)
+CallStands g p e s = (length p ≡ 188) × (getD p 0 0 ≡ 0x47) × (wrongEvent e ≡ false) × (wrongGathering g (length s) ≡ false)
 
 -- the state after an event of a kind, by the unit's bytes with those that are added, and the place in the packet where these stand
 unfoldable pub moved : Gathering → ℕ → ℕ → ℕ → Gathering

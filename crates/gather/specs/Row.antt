@@ -1,19 +1,20 @@
 -- A gathering state as the numbers that a host keeps, in this order: open 0 or 1; the count; where the bytes lie, a place of the packet or
 -- 255 for the store.
 use mathlib.Core.Bool.{Bool, true, false}
-use mathlib.Core.List.{List, [], _∷_}
+use mathlib.Core.List.{List, [], _∷_, _++_}
 use Prim.Native.Nat.{ℕ}
 use lib.Dec.{eqb, ltb}
 use lib.ListN.{getD}
-use Rattle.bits.specs.Answer.{Answer, answer, pick, truth}
-use Rattle.bits.specs.Numbers.{done, storeFull}
+use Rattle.bits.specs.Answer.{Answer, answer, pick, truth, Check, _gives_, firstOf}
+use Rattle.bits.specs.Numbers.{done, outOfRange, storeFull}
+use Rattle.packet.specs.Packet.{notPacket}
 use Rattle.log.specs.declared.Event.{Event}
 use Rattle.gather.specs.declared.Lies.{Lies}
 use Rattle.gather.specs.declared.Lies.the-variants.{Packet, Store}
 use Rattle.gather.specs.declared.Gathering.{Gathering}
 use Rattle.gather.specs.declared.row.RowRead.{RowRead}
 use Rattle.gather.specs.declared.row.RowRead.the-variants.{Is, Stray}
-use Rattle.gather.specs.Gather.{gathering, judged, gatherOf, storeOf, readOf}
+use Rattle.gather.specs.Gather.{gathering, gatherOf, storeOf, readOf}
 
 -- ---- where the bytes lie
 
@@ -48,9 +49,13 @@ rowGather n xs s = record { number = n; row = xs; store = s }
 abbrev pub moves : ℕ → Bool
 moves n = pick (eqb n done) true (eqb n storeFull)
 
--- a row that stands for nothing is 14 where a wrong state is; a refusal, 20 apart, leaves the row as it was lent
+-- a row that stands for no state: 14 where a wrong state is, after 1 and 2
+unfoldable pub notState : List ℕ → List Check
+notState p = notPacket p ++ (true gives outOfRange ∷ [])
+
+-- a refusal, 20 apart, leaves the row as it was lent
 abbrev pub gatherBy : RowRead → List ℕ → List ℕ → Event → List ℕ → RowGather
-gatherBy Stray xs p e s = rowGather (judged p false done) xs s
+gatherBy Stray xs p e s = rowGather (firstOf (notState p)) xs s
 gatherBy (Is g) xs p e s =
     rowGather (gatherOf g p e s .number) (pick (moves (gatherOf g p e s .number)) (rowOf (gatherOf g p e s .gathering)) xs) (storeOf g p e s)
 
@@ -67,7 +72,7 @@ abbrev pub heldAnswer : Gathering → List ℕ → List ℕ → Answer
 heldAnswer g p s = pick (eqb (readOf g p s) done) (answer done (partValues (g .lies) (g .count))) (answer (readOf g p s) [])
 
 abbrev pub heldBy : RowRead → List ℕ → List ℕ → Answer
-heldBy Stray p s = answer (judged p false done) []
+heldBy Stray p s = answer (firstOf (notState p)) []
 heldBy (Is g) p s = heldAnswer g p s
 
 unfoldable pub rowHeld : List ℕ → List ℕ → List ℕ → Answer

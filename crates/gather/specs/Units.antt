@@ -1,6 +1,6 @@
 -- For theorems: the calls over the events of a list of packets, and the bytes of a unit.
 use mathlib.Core.Path.{_≡_}
-use mathlib.Core.Bool.{true}
+use mathlib.Core.Bool.{true, false}
 use mathlib.Core.List.{List, [], _∷_, _++_}
 use mathlib.Core.Logic.{_⊎_}
 use Prim.Native.Nat.{ℕ, _+_, _≤_, _<_}
@@ -10,7 +10,7 @@ use Rattle.log.specs.declared.Event.{Event}
 use Rattle.log.specs.Entry.{beginPacket, endPacket}
 use Rattle.gather.specs.declared.Gathering.{Gathering}
 use Rattle.gather.specs.Belongs.{eventBytes, ownBytes}
-use Rattle.gather.specs.Gather.{stateGood, Outcome, gatherOf, storeOf, heldBytes}
+use Rattle.gather.specs.Gather.{wrongGathering, Outcome, gatherOf, storeOf, heldBytes}
 
 -- a state, and the bytes of the store that goes with it
 pub record Standing : Type 0 where
@@ -66,9 +66,9 @@ lastOf b (c ∷ cs) = lastOf c cs
 abbrev pub Inside : List (List ℕ) → Event → Type 0
 Inside ps e = (e .index < length ps) × (e .place + e .length ≤ 188)
 
--- a state whose bytes lie in its store, and in a packet where they lie there: it is not 14
+-- a state whose bytes lie in its store, and in a packet where they lie there: it is not refused with 14
 abbrev pub GatheringStands : Standing → Type 0
-GatheringStands t = stateGood (t .gathering) (length (t .store)) ≡ true
+GatheringStands t = wrongGathering (t .gathering) (length (t .store)) ≡ false
 
 abbrev pub Kind : ℕ → Event → Type 0
 Kind k e = e .kind ≡ k

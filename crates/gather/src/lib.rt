@@ -8,7 +8,7 @@ ghost use Rattle.bits.specs.Answer.{pick, partAt, placedAt};
 ghost use Rattle.bits.specs.Numbers.{done, storeFull};
 ghost use Rattle.log.specs.Entry.{beginPacket, continuePacket};
 ghost use Rattle.gather.specs.Belongs.{ownPlace, ownBytes};
-ghost use Rattle.gather.specs.Gather.{gathering, emptied, eventGood, inPacket, stateGood, CallStands, moved};
+ghost use Rattle.gather.specs.Gather.{gathering, emptied, wrongEvent, wrongGathering, CallStands, moved};
 ghost use Rattle.gather.specs.Gather.{outcome, given, gatherOf, storeOf, readOf, givenHeld, heldBytes};
 use bits::part;
 use log::BEGIN_PACKET;
@@ -90,46 +90,37 @@ fn own_part(bytes: &[u8]) -> Extent
     Extent { place, length }
 }
 
-// ---- what cannot be
+// ---- what is refused
 
-// An event has a kind 1 to 5, and its part lies in a packet.
-fn event_good(event: Event) -> bool
-    ensures { λ r. ⌜ r ≡ eventGood event ⌝ }
+// An event of no kind 1 to 5, or whose part leaves the packet.
+fn wrong_event(event: Event) -> bool
+    ensures { λ r. ⌜ r ≡ wrongEvent event ⌝ }
 {
     if event.kind < START_STREAM {
-        return false;
+        return true;
     }
     if CONTINUITY_ERROR < event.kind {
-        return false;
+        return true;
     }
-    event.place as usize + event.length as usize <= 188
+    188 < event.place as usize + event.length as usize
 }
 
-// So many bytes of a state lie within a packet, where they lie there.
-fn in_packet(lies: Lies, count: usize) -> bool
-    ensures { λ r. ⌜ r ≡ inPacket lies count ⌝ }
-{
-    match lies {
-        Lies::Packet(place) => {
-            if 188 < place {
-                return false;
-            }
-            count <= 188 - place
-        }
-        Lies::Store => true,
-    }
-}
-
-// The bytes of a state lie in the store, and in the packet where they lie there.
-fn state_good(g: Gathering, room: usize) -> bool
-    ensures { λ r. ⌜ r ≡ stateGood g room ⌝ }
+// A state whose bytes leave the store, or the packet where they lie there.
+fn wrong_gathering(g: Gathering, room: usize) -> bool
+    ensures { λ r. ⌜ r ≡ wrongGathering g room ⌝ }
 {
     let count = g.count;
     let lies = g.lies;
     if room < count {
-        return false;
+        return true;
     }
-    in_packet(lies, count)
+    let Lies::Packet(place) = lies else {
+        return false;
+    };
+    if 188 < place {
+        return true;
+    }
+    188 - place < count
 }
 
 // ---- what an event does
@@ -268,13 +259,13 @@ pub fn gather(g: Gathering, packet: &[u8], event: Event, store: &mut [u8]) -> Ga
             gathering: g,
         };
     }
-    if !event_good(event) {
+    if wrong_event(event) {
         return Gathered {
             verdict: Verdict::OutOfRange,
             gathering: g,
         };
     }
-    if !state_good(g, store.len()) {
+    if wrong_gathering(g, store.len()) {
         return Gathered {
             verdict: Verdict::OutOfRange,
             gathering: g,
@@ -295,10 +286,11 @@ pub fn held(g: Gathering, packet: &[u8], store: &[u8]) -> HeldRead
     if packet[0] != 71 {
         return HeldRead::NoSync;
     }
-    if state_good(g, store.len()) {
-        return HeldRead::Done;
+    let room = store.len();
+    if wrong_gathering(g, room) {
+        return HeldRead::OutOfRange;
     }
-    HeldRead::OutOfRange
+    HeldRead::Done
 }
 
 // The bytes so far: a part of the packet after a begin, otherwise of the store.

@@ -64,13 +64,9 @@ module _ (r : RowRead) (xs bs l : List ℕ) (t e : ℕ) (of : r ≡ machineOf xs
 -- ---- the gathering store
 
 -- a row that stands for nothing is refused alike by both: 1, 2, 14
-judged-alike : (p : List ℕ) → firstOf (notTaken p true []) ≡ gather.judged p false 0
-judged-alike p = stray-number p ∙ go (eqb (length p) 188) (eqb (getD p 0 0) 0x47)
-  where
-    go : (a b : Bool) → _≡_ {A = ℕ} (pick (not a) 1 (pick (not b) 2 14)) (pick a (pick b 14 2) 1)
-    go true true = refl
-    go true false = refl
-    go false b = refl
+judged-alike : (p : List ℕ) → firstOf (notTaken p true []) ≡ firstOf (store.notState p)
+unfolding notTaken store.notState
+judged-alike p = refl
 
 module _ (r : gather-row.RowRead) (xs p : List ℕ) (v : Event) (s : List ℕ) (of : r ≡ store.gatheringOf xs) where
   gathered-by : store.gatherBy r xs p v s ≡ store.rowGatherOf xs p v s

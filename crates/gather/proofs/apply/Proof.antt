@@ -3,9 +3,10 @@ use mathlib.Core.List.{List}
 use Prim.Native.Nat.{ℕ, _+_, _-_, _≤_}
 use native.Mathlib.Omega.{arith}
 use lib.ListN.{length, take, drop}
-use borrow.Author.Tests.{not-true, not-false}
+use borrow.Author.Tests.{not-true, not-false, eq-eqb}
+use Rattle.bits.proofs.Bools.{not-both}
 use Rattle.bits.proofs.Parts.{part-cut, part-length}
-use Rattle.gather.proofs.Laws.{part-inside, kind-known, state-inside, extends-true, extends-false, adds-open, adds-begin, added-rest}
+use Rattle.gather.proofs.Laws.{part-inside, event-stands, gathering-stands, extends-true, adds-open, adds-begin, added-rest}
 use Rattle.gather.proofs.Laws.{moved-open, moved-begin, room, apply-full, apply-done, apply-none}
 use borrow.Author.Needs.{needs}
 use Rattle.gather.proofs.apply.Statement.{statement}
@@ -21,7 +22,7 @@ part-appends-end c = let d = c .before .before .before .before .before .before i
 appends-requires : tie.Need-appends-requires
 appends-requires c κs =
     let d = c .before .before .before .before .before .before .before .before in
-    (short _ _ _ (d .pre .0) (part-inside (d .args .event) (d .pre .2)), state-inside (d .args .g) _ (d .pre .3) .0)
+    (short _ _ _ (d .pre .0) (part-inside (d .args .event) (d .pre .2)), gathering-stands (d .args .g) _ (d .pre .3) .0)
 
 -- a continue of an open unit
 returns : tie.Need-returns
@@ -107,8 +108,9 @@ rests-requires : tie.Need-rests-requires
 rests-requires c κs =
     let t = c .before .before in
     let d = t .before .before .before .before .before in
-    let k = kind-known (d .args .event) (d .pre .2) in
-    (k .0, k .1, c .if3 .left, extends-false _ _ (sym (t .extends .ensures) ∙ c .before .if1 .left))
+    let k = event-stands (d .args .event) (d .pre .2) in
+    let z = sym (t .extends .ensures) ∙ c .before .if1 .left in
+    (k .0, k .1, c .if3 .left, λ e. not-both _ _ z (eq-eqb _ _ e))
 
 returns-5 : tie.Need-returns-5
 returns-5 c =
