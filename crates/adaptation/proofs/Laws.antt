@@ -13,14 +13,12 @@ use lib.Seq.{getD-drop}
 use lib.Dec.{eqb}
 use types.Run.{OneOf}
 use denote.Enum.Declared.{tagOf}
-use mir.Val.{Fits}
-use mir.Syntax.{w8}
 use borrow.Author.Needs.{needs}
 use borrow.Author.Tests.{le-ltb, lt-ltb, ltb-false, eq-eqb, ne-eqb}
 use Rattle.bits.specs.Answer.{Answer, answer, truth, unless, partAt, partOf, Within}
 use Rattle.bits.specs.Field.{bit, field, flag}
 use Rattle.bits.proofs.Checks.{unless-within}
-use Rattle.bits.proofs.Fields.{bitOf, flag-clear, flag-set, field-split, field-drop, in-byte}
+use Rattle.bits.proofs.Fields.{Known, bitOf, flag-clear, flag-set, field-split, field-drop, in-byte}
 use Rattle.bits.proofs.Parts.{part-rest, part-refused, part-done}
 use Rattle.timestamp.specs.declared.Timestamp.{Timestamp}
 use Rattle.timestamp.specs.declared.TimestampRead.{TimestampRead}
@@ -39,10 +37,6 @@ use Rattle.adaptation.specs.Adaptation.{readPcr, readOpcr, readSpliceCou
 use Rattle.adaptation.specs.Extension.{ltwBit, rateBit, seamlessBit, ltwAt, readLtw, readRate, readSplice, rateAt, seamlessAt, typed}
 
 -- ---- flags and bytes
-
--- each entry is a byte, as the borrow checker says it
-abbrev Known : List ℕ → Type 0
-Known xs = (i : ℕ) → Fits w8 (getD xs i 0)
 
 module _ (xs : List ℕ) where
   pub flag-on : (i : ℕ) → (bitOf xs i ≡ 0 → ⊥) → flag xs i ≡ true

@@ -2,7 +2,7 @@
 -- Assumes nothing.
 use mathlib.Core.Path.{_≡_, refl, sym, _∙_}
 use mathlib.Core.Bool.{Bool, true, false, _||_}
-use Prim.Native.Nat.{ℕ}
+use Prim.Native.Nat.{ℕ, _%_}
 use native.Mathlib.Omega.{arith}
 use Rattle.bits.specs.Answer.{pick, truth}
 
@@ -44,6 +44,11 @@ is-true false e = absurd (omega arith)
 pub is-false : (t : Bool) → 0 ≡ truth t → t ≡ false
 is-false true e = absurd (omega arith)
 is-false false e = refl
+
+-- a truth value is a bit
+pub truth-mod : (b : Bool) → truth b % 2 ≡ truth b
+truth-mod true = refl
+truth-mod false = refl
 
 -- ---- tests joined by `||`
 

@@ -12,6 +12,7 @@ use borrow.Author.Tests.{lt-ltb, le-leb, eq-eqb, ltb-true, ltb-false}
 use Rattle.bits.specs.Answer.{answer, pick, truth}
 use Rattle.bits.specs.Field.{bit, field}
 use Rattle.bits.specs.Pack.{Part, joined, bytesOf}
+use Rattle.bits.proofs.Bools.{truth-mod}
 use Rattle.bits.proofs.Fields.{field-one, field-right, byte-field, truth-bit}
 use Rattle.bits.proofs.Packs.{length-bytesOf, RowIn, RowFits, row-front}
 use Rattle.packet.specs.Packet.{pidField, counterField, adaptationFlag, payloadFlag, adaptationLength, adaptationThere, readAdaptation}
@@ -25,10 +26,6 @@ use Rattle.machine.specs.Run.{IsPacket}
 stuffing-first : (r : ℕ) (xs : List ℕ) → r < 184 → getD (stuffing r ++ xs) 0 0 ≡ 183 - r
 unfolding stuffing
 stuffing-first r xs h = simp (lt-ltb r 184 h)
-
-truth-mod : (b : Bool) → truth b % 2 ≡ truth b
-truth-mod true = refl
-truth-mod false = refl
 
 module _ (start id c : ℕ) (xs : List ℕ) where
   abbrev table : List Part

@@ -8,6 +8,7 @@ use native.Mathlib.Omega.{arith}
 use lib.Dec.{leb, ltb}
 use borrow.Author.Tests.{leb-true, ltb-true}
 use Rattle.bits.specs.Answer.{pick, All}
+use Rattle.bits.proofs.Bools.{both}
 use Rattle.pes.specs.Stream.{parsedId}
 use Rattle.writer.specs.declared.Route.{Route}
 use Rattle.writer.specs.declared.Times.{Times}
@@ -47,29 +48,24 @@ pub record UnitFits (u : Unit) (n : ℕ) : Type 0 where
 
 -- ---- the tests
 
-and-both : (a b : Bool) → pick a b false ≡ true → (a ≡ true) × (b ≡ true)
-and-both true b h = (refl, h)
-and-both false true h = (h, refl)
-and-both false false h = (h, h)
-
 abbrev IsTrue : Bool → Type 0
 IsTrue b = b ≡ true
 
 all-true : (bs : List Bool) → allOf bs ≡ true → All IsTrue bs
 all-true [] h = tt
-all-true (b ∷ bs) h = let g = and-both b (allOf bs) h in (g .0, all-true bs (g .1))
+all-true (b ∷ bs) h = let g = both b (allOf bs) h in (g .0, all-true bs (g .1))
 
 within-true : (a z v : ℕ) → within a z v ≡ true → (a ≤ v) × (v ≤ z)
-within-true a z v h = let g = and-both (leb a v) (leb v z) h in (leb-true a v (g .0), leb-true v z (g .1))
+within-true a z v h = let g = both (leb a v) (leb v z) h in (leb-true a v (g .0), leb-true v z (g .1))
 
 times-true : (t : Times) → timesFit t ≡ true → TimesFit t
 times-true Untimed h = omega arith
 times-true (Pts p) h = ltb-true p (2 ^ 33) h
-times-true (Both p d) h = let g = and-both (ltb p (2 ^ 33)) (ltb d (2 ^ 33)) h in (ltb-true p (2 ^ 33) (g .0), ltb-true d (2 ^ 33) (g .1))
+times-true (Both p d) h = let g = both (ltb p (2 ^ 33)) (ltb d (2 ^ 33)) h in (ltb-true p (2 ^ 33) (g .0), ltb-true d (2 ^ 33) (g .1))
 
 escr-true : (e : Escr) → escrFits e ≡ true → EscrFits e
 escr-true Escr.Absent h = omega arith
-escr-true (Escr.Present b e) h = let g = and-both (ltb b (2 ^ 33)) (leb e 299) h in (ltb-true b (2 ^ 33) (g .0), leb-true e 299 (g .1))
+escr-true (Escr.Present b e) h = let g = both (ltb b (2 ^ 33)) (leb e 299) h in (ltb-true b (2 ^ 33) (g .0), leb-true e 299 (g .1))
 
 fits-true : (a z : ℕ) (f : Field) → fits a z f ≡ true → atMost z f
 fits-true a z absent h = omega arith
