@@ -31,7 +31,7 @@ use Rattle.pes_header.specs.Payload.{givenPayload, later, headerPayload,
 use Rattle.pes_header.proofs.PayloadRead.{the-type}
 
 -- an answer that is not `Done` is a refusal
-payload-refusal : (r : PayloadRead) → OneOf (1 ∷ 2 ∷ 3 ∷ 4 ∷ 5 ∷ 6 ∷ []) (tagOf the-type r) → givenPayload r .number ≡ 0 → ⊥
+pub payload-refusal : (r : PayloadRead) → OneOf (1 ∷ 2 ∷ 3 ∷ 4 ∷ 5 ∷ 6 ∷ []) (tagOf the-type r) → givenPayload r .number ≡ 0 → ⊥
 payload-refusal (PayloadRead.Done p n) k z = miss (1 ∷ 2 ∷ 3 ∷ 4 ∷ 5 ∷ 6 ∷ []) 0 tt k
 payload-refusal PayloadRead.ShortHeader k z = omega arith
 payload-refusal PayloadRead.BadStartCode k z = omega arith

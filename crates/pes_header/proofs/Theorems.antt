@@ -10,7 +10,7 @@ use borrow.Author.Tests.{eqb-true, eqb-false}
 use lib.Dec.{eqb}
 use lib.ListN.{length, getD, drop}
 use denote.Ref.{now}
-use Rattle.bits.specs.Answer.{Answer, answer, pick, andThen, unless, partOf, Within}
+use Rattle.bits.specs.Answer.{Answer, answer, pick, andThen, partOf}
 use Rattle.bits.proofs.Checks.{refused-by}
 use Rattle.bits.proofs.Tests.{one-answer}
 use Rattle.bits.proofs.Parts.{part-refused, part-rest, part-in, part-done}
@@ -21,13 +21,14 @@ use Rattle.pes.specs.declared.ContentsRead.{ContentsRead}
 use Rattle.pes.specs.Stream.{parsedId}
 use Rattle.pes.specs.Head.{givenHead, givenStreamId, givenLength, givenContents}
 use Rattle.pes.specs.Head.{notHead, idOf, readHead, readStreamId, readLength, readContentsPart, contentsPart}
-use Rattle.pes.proofs.Laws.{Headed, headed-done, contents-within}
+use Rattle.pes.proofs.Laws.{headed-done, contents-within}
 use Rattle.pes.proofs.Theorems.{one-head, one-stream-id, one-length, one-contents}
 use Rattle.contents.specs.Contents.{readPayload, readContents}
 use Rattle.pes_header.specs.declared.PesHeader.{PesHeader}
 use Rattle.pes_header.specs.declared.PayloadRead.{PayloadRead}
 use Rattle.pes_header.specs.Payload.{givenPayload, later, headerPayload, payloadBytes}
-use Rattle.pes_header.proofs.Laws.{later-number, later-within, later-part, contents-number}
+use Rattle.pes_header.proofs.Laws.{later-number, later-part, contents-number}
+pub use Rattle.pes_header.proofs.Laws.{payload-within}
 
 -- ---- one answer only: any two answers that meet the promise of `payload_at` are equal
 

@@ -31,7 +31,7 @@ use types.Run.{look, init, forget, stop, fld, from, load, of-opd, and-then, no-m
 use types.Run.{alloc1, alloc0, params1, pass1, pass0, free1, free0}
 use sound.WpLaws.{FmC, fmOf, WpFn-mono}
 use denote.RattleType.{RattleType, owns}
-use denote.Laws.{Is, Lawful, shows}
+use denote.Laws.{Is, shows}
 use denote.Enum.Declared as Enums
 use denote.Enum.Enum.{Few, formOf}
 use denote.Enum.Laws as EL
