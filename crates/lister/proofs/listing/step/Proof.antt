@@ -2,14 +2,14 @@
 use mathlib.Core.Path.{_≡_, refl, sym, ap, _∙_}
 use mathlib.Core.Bool.{Bool, true, false}
 use mathlib.Core.List.{List}
-use Prim.Native.Nat.{ℕ, _-_, _*_, _≤_}
+use Prim.Native.Nat.{ℕ, _≤_}
 use native.Mathlib.Omega.{arith}
 use lib.ListN.{length}
 use borrow.Author.Needs.{needs}
 use Rattle.bits.specs.Answer.{pick}
 use Rattle.machine.specs.declared.Machine.{Machine}
 use Rattle.machine.specs.Events.{startFlag}
-use Rattle.machine.specs.Step.{Outcome, stateOf, eventsAt, numberOf, stepOf}
+use Rattle.machine.specs.Step.{Outcome, stateOf, numberOf, stepOf}
 use Rattle.machine.proofs.Laws.{never-full}
 use Rattle.machine.proofs.Theorems.{at-most}
 use Rattle.lister.proofs.listing.step.Statement.{statement}
