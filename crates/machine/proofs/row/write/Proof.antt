@@ -4,4 +4,6 @@ use Rattle.machine.proofs.row.write.Statement.{statement}
 use Rattle.machine.proofs.row.write.Tie as tie
 
 pub write-spec : {M : Type 1} → statement M
-write-spec = tie.close (tie.spec (λ c κs. search needs) (λ c κs. search needs) (λ c. search needs) (λ c. search (row-is, needs)))
+write-spec {M} =
+    let answers = tie.spec {M = M} (λ c κs. search needs) (λ c κs. search needs) (λ c. search needs) (λ c. search (row-is, needs)) in
+    tie.close answers
