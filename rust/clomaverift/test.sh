@@ -1,7 +1,7 @@
 #!/usr/bin/env bash
-# rust/clomaverift/test.sh : builds the crate over the archives of target/staticlib, by rustc alone, and runs its tests: those of its
-# modules, of tests/, of its documentation, and the examples on the sample stream. An archive that is not there is built first. On a
-# machine other than x86-64 the tests run under Debian's qemu-user; where it is not installed they are built alone.
+# rust/clomaverift/test.sh : builds the crate over the archives of target/staticlib, by rustc alone, with and without std, and runs its
+# tests: those of its modules, of tests/, of its documentation, and the examples on the sample stream. An archive that is missing is
+# built first. On a machine other than x86-64 the tests run under Debian's qemu-user; if it is not installed they are only built.
 set -euo pipefail
 # shellcheck source-path=SCRIPTDIR source=../../tools/common.sh
 . "$(dirname "$0")/../../tools/common.sh"
@@ -12,6 +12,7 @@ rustc=$(find_rustc)
 libraries=(-L "native=$target/staticlib" "${parts[@]/#/-lstatic=}")
 crate=(--extern "clomaverift=$out/libclomaverift.rlib")
 flags=(--target "$triple" --edition 2021 -D warnings)
+std=(--cfg 'feature="std"')
 # What runs a program, and the same for rustdoc. Rust's own start-up does not run under the toolchain's emulator, and a test has no other.
 runner=()
 doc_runner=()
@@ -28,8 +29,9 @@ build() { # FILE PROGRAM RUSTC-WORDS..
 
 build_all() {
     local name
-    build src/lib.rs libclomaverift.rlib --crate-name clomaverift --crate-type rlib "${libraries[@]}"
-    build src/lib.rs modules --crate-name clomaverift --test "${libraries[@]}"
+    build src/lib.rs no_std.rlib --crate-name clomaverift --crate-type rlib "${libraries[@]}"
+    build src/lib.rs libclomaverift.rlib --crate-name clomaverift --crate-type rlib "${std[@]}" "${libraries[@]}"
+    build src/lib.rs modules --crate-name clomaverift --test "${std[@]}" "${libraries[@]}"
     for name in "${tests[@]}"; do
         build "tests/$name.rs" "$name" --test "${crate[@]}"
     done
@@ -45,7 +47,7 @@ run_tests() { # PROGRAM
 }
 
 run_examples_of_documentation() {
-    "$(dirname "$rustc")/rustdoc" --test "${flags[@]}" "${doc_runner[@]}" --crate-name clomaverift "${crate[@]}" "$here/src/lib.rs" \
+    "$(dirname "$rustc")/rustdoc" --test "${flags[@]}" "${std[@]}" "${doc_runner[@]}" --crate-name clomaverift "${crate[@]}" "$here/src/lib.rs" \
         >"$out/said" 2>&1 ||
         { cat "$out/said" && fail "an example of the documentation failed"; }
     echo "documentation: $(grep '^test result' "$out/said")"

@@ -5,7 +5,7 @@
 //!     cargo run --example rewrite FILE
 
 use clomaverift::{Copyright, DataAlignment, OriginalOrCopy};
-use clomaverift::{Demux, Found, FoundUnit, Packet, PesContents, PesHeader, PesParsedContents, Times, Unit};
+use clomaverift::{Demux, Found, FoundUnit, Packet, PesHeader, PesParsedContents, Times, Unit};
 use std::collections::{BTreeMap, BTreeSet};
 use std::error::Error;
 use std::io::Write;
@@ -24,10 +24,7 @@ fn times_of(found: &FoundUnit<'_>) -> Times {
 /// What follows the head of the unit that begins with this packet of the recording.
 fn contents_at(recording: &[u8], index: u64) -> Option<PesParsedContents<'_>> {
     let bytes = recording.chunks_exact(Packet::SIZE).nth(index.try_into().ok()?)?;
-    match PesHeader::from_bytes(Packet::try_new(bytes).ok()?.payload()?).ok()?.contents() {
-        PesContents::Parsed(contents) => contents.ok(),
-        PesContents::Payload(_) => None,
-    }
+    PesHeader::from_bytes(Packet::try_new(bytes).ok()?.payload()?).ok()?.contents().parsed().ok()
 }
 
 /// The unit with these fields of its header.

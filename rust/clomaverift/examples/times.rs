@@ -3,7 +3,7 @@
 //!
 //!     cargo run --example times FILE
 
-use clomaverift::{Demux, Found, Packet, PesContents, PesHeader, PtsDts, Timestamp};
+use clomaverift::{Demux, Found, Packet, PesHeader, PtsDts, Timestamp};
 use std::process::ExitCode;
 
 fn shown(time: Option<Timestamp>) -> String {
@@ -11,10 +11,7 @@ fn shown(time: Option<Timestamp>) -> String {
 }
 
 fn times(header: &PesHeader<'_>) -> Option<PtsDts> {
-    match header.contents() {
-        PesContents::Parsed(parsed) => parsed.ok()?.pts_dts().ok(),
-        PesContents::Payload(_) => None,
-    }
+    header.contents().parsed().ok()?.pts_dts().ok()
 }
 
 fn print(found: Found<'_>) {

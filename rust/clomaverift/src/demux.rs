@@ -4,8 +4,9 @@ use crate::error::{sure, Error};
 use crate::gather::Gathering;
 use crate::machine::{Event, EventKind, Machine};
 use crate::packet::{ClockRef, Packet, Pid};
-use crate::pes::{PesContents, PesHeader, PesLength, PtsDts, StreamId, Timestamp};
-use std::collections::BTreeMap;
+use crate::pes::{PesHeader, PesLength, PtsDts, StreamId, Timestamp};
+use alloc::collections::BTreeMap;
+use alloc::vec::Vec;
 
 /// The log of one packet, which has at most two events.
 const LOG: usize = 16;
@@ -107,11 +108,13 @@ pub struct FoundUnit<'a> {
 
 impl FoundUnit<'_> {
     /// The presentation timestamp, if there is one and it is not refused.
+    #[must_use]
     pub fn pts(&self) -> Option<Timestamp> {
         self.times.ok()?.pts()
     }
 
     /// The decoding timestamp, if there is one and it is not refused.
+    #[must_use]
     pub fn dts(&self) -> Option<Timestamp> {
         self.times.ok()?.dts()
     }
@@ -155,6 +158,7 @@ impl Default for Demux {
 
 impl Demux {
     /// Of every PID but that of stuffing, and of units of up to 16 MiB.
+    #[must_use]
     pub fn new() -> Demux {
         Demux { streams: BTreeMap::new(), only: None, most: STORE, index: 0 }
     }
@@ -169,16 +173,19 @@ impl Demux {
     /// demux.push(&recording, |found| panic!("{found:?}"));
     /// # Ok::<(), clomaverift::Error>(())
     /// ```
+    #[must_use]
     pub fn only(self, pids: &[Pid]) -> Demux {
         Demux { only: Some(pids.to_vec()), ..self }
     }
 
     /// With units of up to so many bytes.
+    #[must_use]
     pub fn at_most(self, bytes: usize) -> Demux {
         Demux { most: bytes, ..self }
     }
 
     /// The packets pushed so far: the index of the next one.
+    #[must_use]
     pub fn index(&self) -> u64 {
         self.index
     }
@@ -235,10 +242,7 @@ struct Opened {
 
 impl Opened {
     fn new(index: u64, header: &PesHeader<'_>) -> Opened {
-        let times = match header.contents() {
-            PesContents::Parsed(parsed) => parsed.and_then(|contents| contents.pts_dts()),
-            PesContents::Payload(_) => Err(Error::FieldNotPresent),
-        };
+        let times = header.contents().parsed().and_then(|contents| contents.pts_dts());
         Opened { index, stream_id: header.stream_id(), length: header.pes_packet_length(), times }
     }
 }

@@ -1,6 +1,6 @@
 //! The refusals.
 
-use std::fmt;
+use core::fmt;
 
 /// Why the library refused. Each refusal has a number, 1 to 20, and is given exactly when its line says. More may be added: a `match`
 /// needs an arm for the rest.
@@ -16,42 +16,42 @@ use std::fmt;
 #[derive(Clone, Copy, Debug, PartialEq, Eq, Hash)]
 #[non_exhaustive]
 pub enum Error {
-    /// 1: a packet of other than 188 bytes, a run over other than whole packets, a timestamp of under 5 bytes, a clock reference of
-    /// under 6, an empty adaptation field.
+    /// 1: a packet that is not 188 bytes long, a run over bytes that are not whole packets, a timestamp of fewer than 5 bytes, a clock
+    /// reference of fewer than 6, an empty adaptation field.
     WrongLength,
     /// 2: the first byte of a packet is not 47 hex.
     NoSync,
-    /// 3: a PES packet of under 6 bytes.
+    /// 3: a PES packet of fewer than 6 bytes.
     ShortHeader,
     /// 4: the first three bytes of a PES packet are not 00 00 01.
     BadStartCode,
-    /// 5: under 3 bytes after those 6.
+    /// 5: fewer than 3 bytes after those 6.
     ShortContents,
     /// 6: the top two bits of the contents are not 10.
     BadCheckBits,
-    /// 7: the header data would end past the bytes there.
+    /// 7: the header data length reaches past the end of the bytes.
     HeaderPastBuffer,
-    /// 8: the flagged fields would end past the header data.
+    /// 8: the flagged fields are longer than the header data.
     FieldsPastHeader,
     /// 9: the field's flag is clear; the packet has no payload or no adaptation field.
     FieldNotPresent,
     /// 10: the PTS and DTS flags are 01.
     PtsDtsFlagsInvalid,
-    /// 11: an adaptation field or its extension is too short for the field, or the extension is empty.
+    /// 11: the field is truncated in an adaptation field or its extension, or the extension is empty.
     NotEnoughData,
     /// 12: a bit that is always 1 is 0.
     MarkerBitNotSet {
         /// The number of the bit in its field, the first being 0.
         bit_number: u8,
     },
-    /// 13: the four bits before a timestamp are others.
+    /// 13: the four prefix bits of a timestamp are not the expected ones.
     IncorrectPrefixBits {
-        /// The bits that were to be there.
+        /// The bits that were expected.
         expected: u8,
         /// The bits that are there.
         actual: u8,
     },
-    /// 14: a number that stands for nothing; a state, an event or a log place that cannot be.
+    /// 14: a number that stands for nothing; a state, an event or a log place that is not possible.
     OutOfRange,
     /// 15: a packet's events need more than the free bytes of the log.
     LogFull,
@@ -101,6 +101,7 @@ impl Error {
     }
 
     /// The number of the refusal, 1 to 20; 0 for [`Error::Unknown`].
+    #[must_use]
     pub fn number(&self) -> u32 {
         match self {
             Error::WrongLength => 1,
@@ -131,15 +132,15 @@ impl Error {
         match self {
             Error::WrongLength => "wrong length",
             Error::NoSync => "no sync byte",
-            Error::ShortHeader => "fewer bytes than a PES header has",
+            Error::ShortHeader => "truncated PES header",
             Error::BadStartCode => "no PES start code",
-            Error::ShortContents => "fewer bytes than PES contents have",
+            Error::ShortContents => "truncated PES contents",
             Error::BadCheckBits => "wrong check bits",
-            Error::HeaderPastBuffer => "the PES header ends past the bytes there",
-            Error::FieldsPastHeader => "the flagged fields end past the PES header",
+            Error::HeaderPastBuffer => "the PES header is longer than its bytes",
+            Error::FieldsPastHeader => "the flagged fields are longer than the PES header",
             Error::FieldNotPresent => "the field is not present",
             Error::PtsDtsFlagsInvalid => "invalid PTS and DTS flags",
-            Error::NotEnoughData => "too few bytes for the field",
+            Error::NotEnoughData => "the field is truncated",
             Error::MarkerBitNotSet { .. } => "a marker bit is not set",
             Error::IncorrectPrefixBits { .. } => "incorrect prefix bits",
             Error::OutOfRange => "out of range",
@@ -159,7 +160,7 @@ impl fmt::Display for Error {
         match self {
             Error::MarkerBitNotSet { bit_number } => write!(f, "marker bit {bit_number} is not set"),
             Error::IncorrectPrefixBits { expected, actual } => {
-                write!(f, "prefix bits {actual:04b} where {expected:04b} are due")
+                write!(f, "prefix bits {actual:04b} instead of {expected:04b}")
             }
             Error::Unknown(number) => write!(f, "the library gave the number {number}, which this crate does not know"),
             other => f.write_str(other.text()),
@@ -167,6 +168,7 @@ impl fmt::Display for Error {
     }
 }
 
+#[cfg(feature = "std")]
 impl std::error::Error for Error {}
 
 /// A number that stands for nothing here.
@@ -192,7 +194,7 @@ mod tests {
         assert_eq!(Error::from_word(12 + 256 * 39), Some(Error::MarkerBitNotSet { bit_number: 39 }));
         let prefix = Error::IncorrectPrefixBits { expected: 2, actual: 15 };
         assert_eq!(Error::from_word(13 + 256 * 2 + 65_536 * 15), Some(prefix));
-        assert_eq!(prefix.to_string(), "prefix bits 1111 where 0010 are due");
+        assert_eq!(prefix.to_string(), "prefix bits 1111 instead of 0010");
     }
 
     #[test]

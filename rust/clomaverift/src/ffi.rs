@@ -39,7 +39,7 @@ impl<const N: usize> Row<N> {
     pub fn numbers<const K: usize>(&mut self) -> [u64; K] {
         let place = self.taken;
         self.taken += K;
-        std::array::from_fn(|at| self.numbers[place + at])
+        core::array::from_fn(|at| self.numbers[place + at])
     }
 
     /// The next word, and the numbers after it or the refusal that it says.
@@ -100,7 +100,6 @@ functions! {
     clock_ref_eq = cmv_clock_ref_eq(base: u64, extension: u16, base2: u64, extension2: u16 => same);
     continuity_counter_new = cmv_continuity_counter_new(count: u8 => value);
     continuity_counter_follows = cmv_continuity_counter_follows(count: u8, other: u8 => follows);
-    pid_new = cmv_pid_new(pid: u16 => value);
     pid_try_from = cmv_pid_try_from(pid: u16 => value);
     adaptation_control = cmv_adaptation_control(byte: u8 => field, payload);
     transport_scrambling_control = cmv_transport_scrambling_control(byte: u8 => scrambled, scheme);
@@ -186,7 +185,7 @@ functions! {
     es_rate_bytes_per_second = cmv_es_rate_bytes_per_second(rate: u32 => value);
 }
 
-// ---- The constants, which this crate has as constants of its own: its tests hold the two together.
+// ---- The constants and `Pid::new`, which this crate has as its own: its tests hold the two together.
 
 #[cfg_attr(not(test), allow(dead_code))]
 pub mod constants {
@@ -196,6 +195,7 @@ pub mod constants {
         timestamp = cmv_timestamp_constants(=> max, timebase);
         control = cmv_control_constants(=> max, count);
         packet = cmv_packet_constants(=> sync, size);
+        pid_new = cmv_pid_new(pid: u16 => value);
     }
 }
 

@@ -3,7 +3,7 @@
 use crate::error::Error;
 use crate::ffi;
 use crate::machine::Event;
-use std::fmt;
+use core::fmt;
 
 /// The number that says that the bytes lie in the store.
 const STORE: u64 = 255;
@@ -26,9 +26,9 @@ const STORE: u64 = 255;
 /// assert_eq!((bytes.len(), &bytes[..2]), (175, &[7, 8][..]));
 /// # Ok::<(), clomaverift::Error>(())
 /// ```
-#[derive(Clone, Copy, PartialEq, Eq)]
+#[derive(Clone, Copy, PartialEq, Eq, Hash)]
 pub struct Gathering {
-    /// Whether a unit is open, how many bytes it has, where they lie: the row of numbers that the library is lent.
+    /// Whether a unit is open, its length, the place of its bytes: the row of numbers that the library is lent.
     row: [u64; 3],
 }
 
@@ -40,20 +40,27 @@ impl Default for Gathering {
 
 impl Gathering {
     /// Before the first event: no unit, no bytes.
+    #[must_use]
     pub fn new() -> Gathering {
         Gathering { row: [0, 0, STORE] }
     }
 
-    /// Takes an event of a packet. A begin opens a unit anew with the payload after the header, a continue adds to an open unit, an end
-    /// closes it and keeps its bytes, and a break of the counter empties and closes it.
+    /// Takes an event of a packet. A begin opens a new unit with the payload after the header, a continue adds to an open unit, an end
+    /// closes it and keeps its bytes, and a continuity error empties and closes it.
     ///
-    /// The order of refusals: [`Error::WrongLength`], [`Error::NoSync`], [`Error::OutOfRange`], [`Error::StoreFull`]. On the last the
-    /// unit is closed and has no bytes; on the others nothing changes.
+    /// # Errors
+    ///
+    /// In this order: [`Error::WrongLength`], [`Error::NoSync`], [`Error::OutOfRange`], [`Error::StoreFull`]. On the last the unit is
+    /// closed and has no bytes; on the others nothing changes.
     pub fn gather(&mut self, packet: &[u8], event: Event, store: &mut [u8]) -> Result<(), Error> {
         ffi::gather(&mut self.row, packet, [event.kind as u8, event.place, event.length], store)
     }
 
     /// The bytes so far: a part of the packet of a begin, otherwise of the store. The packet is that of the last event.
+    ///
+    /// # Errors
+    ///
+    /// In this order: [`Error::WrongLength`], [`Error::NoSync`], [`Error::OutOfRange`] if the bytes reach past the packet or the store.
     pub fn bytes<'buf>(&self, packet: &'buf [u8], store: &'buf [u8]) -> Result<&'buf [u8], Error> {
         let [slice, place, length] = ffi::gather_bytes(&self.row, packet, store)?;
         let lent = if slice == 0 { packet } else { store };
@@ -61,11 +68,13 @@ impl Gathering {
     }
 
     /// Whether a unit is open.
+    #[must_use]
     pub fn is_open(&self) -> bool {
         self.row[0] == 1
     }
 
     /// How many bytes it has, or had when it was closed.
+    #[must_use]
     pub fn count(&self) -> usize {
         self.row[1] as usize
     }
@@ -86,7 +95,7 @@ mod tests {
     use crate::machine::EventKind;
 
     fn packet() -> [u8; 188] {
-        let mut bytes: [u8; 188] = std::array::from_fn(|at| at as u8);
+        let mut bytes: [u8; 188] = core::array::from_fn(|at| at as u8);
         bytes[..13].copy_from_slice(&[0x47, 0x41, 0, 0x10, 0, 0, 1, 0xE0, 0, 0, 0x80, 0, 0]);
         bytes
     }

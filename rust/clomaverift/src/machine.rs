@@ -3,7 +3,8 @@
 use crate::error::{unknown, Error};
 use crate::ffi;
 use crate::packet::ContinuityCounter;
-use std::fmt;
+use core::fmt;
+use core::iter::FusedIterator;
 
 /// The number of no last counter.
 const NO_COUNTER: u64 = 255;
@@ -12,14 +13,14 @@ const NO_COUNTER: u64 = 255;
 const ENTRY: usize = 8;
 
 /// Where a machine is.
-#[derive(Clone, Copy, Debug, PartialEq, Eq)]
+#[derive(Clone, Copy, Debug, PartialEq, Eq, Hash)]
 #[non_exhaustive]
 pub enum Phase {
     /// No packet with the start flag was seen.
     Begin,
     /// One was.
     Started,
-    /// The counter broke, and no packet with the start flag was seen since.
+    /// There was a continuity error, and no packet with the start flag since.
     IgnoreRest,
 }
 
@@ -35,14 +36,14 @@ pub enum Phase {
 /// let mut machine = Machine::new();
 /// let mut log = [0; 64];
 /// machine.step(&packet, &mut log)?;
-/// packet[1] = 0x01; // no start, and the counter stays: a break
+/// packet[1] = 0x01; // no start, and the counter stays: a continuity error
 /// machine.step(&packet, &mut log)?;
 ///
 /// let kinds: Vec<_> = machine.events(&log).map(|event| event.unwrap().kind).collect();
 /// assert_eq!(kinds, [EventKind::StartStream, EventKind::BeginPacket, EventKind::ContinuityError]);
 /// # Ok::<(), clomaverift::Error>(())
 /// ```
-#[derive(Clone, Copy, PartialEq, Eq)]
+#[derive(Clone, Copy, PartialEq, Eq, Hash)]
 pub struct Machine {
     /// Phase, last counter, packets taken, place in the log: the row of numbers that the library is lent.
     row: [u64; 4],
@@ -56,11 +57,13 @@ impl Default for Machine {
 
 impl Machine {
     /// A machine before its first packet, at the start of a log.
+    #[must_use]
     pub fn new() -> Machine {
         Machine { row: [0, NO_COUNTER, 0, 0] }
     }
 
-    /// A machine in a state that was kept elsewhere. A step or a run judges the place, which has to be a multiple of 8 within the log.
+    /// A machine in a state that was kept elsewhere. A step or a run checks the place, which has to be a multiple of 8 within the log.
+    #[must_use]
     pub fn from_parts(phase: Phase, last: Option<ContinuityCounter>, taken: u32, place: usize) -> Machine {
         let phase = match phase {
             Phase::Begin => 0,
@@ -71,9 +74,12 @@ impl Machine {
         Machine { row: [phase, last, taken.into(), place as u64] }
     }
 
-    /// Takes a packet, and writes its events to the log. The order of refusals: [`Error::WrongLength`], [`Error::NoSync`],
-    /// [`Error::OutOfRange`] for a place that is not a multiple of 8 within the log, [`Error::IndexFull`], [`Error::LogFull`]. A refused
-    /// packet changes neither the machine nor the log.
+    /// Takes a packet, and writes its events to the log.
+    ///
+    /// # Errors
+    ///
+    /// In this order: [`Error::WrongLength`], [`Error::NoSync`], [`Error::OutOfRange`] for a place that is not a multiple of 8 within the
+    /// log, [`Error::IndexFull`], [`Error::LogFull`]. A refused packet changes neither the machine nor the log.
     pub fn step(&mut self, packet: &[u8], log: &mut [u8]) -> Result<(), Error> {
         ffi::machine_step(&mut self.row, packet, log)
     }
@@ -87,7 +93,7 @@ impl Machine {
     ///
     /// let mut bytes = [0xFF; 2 * 188];
     /// bytes[..13].copy_from_slice(&[0x47, 0x41, 0, 0x10, 0, 0, 1, 0xE0, 0, 0, 0x80, 0, 0]);
-    /// bytes[188] = 0x00; // where 47 hex is due
+    /// bytes[188] = 0x00; // not 47 hex
     /// let mut machine = Machine::new();
     /// let mut log = [0; 64];
     /// let ran = machine.run(&bytes, &mut log)?;
@@ -96,6 +102,8 @@ impl Machine {
     /// assert_eq!(machine.events(&log).count(), 2);
     /// # Ok::<(), Error>(())
     /// ```
+    ///
+    /// # Errors
     ///
     /// The run itself is refused with [`Error::WrongLength`] if the length of the bytes is not a multiple of 188; then with
     /// [`Error::OutOfRange`] if the machine's place is not a multiple of 8 within the log, also if there are no bytes. A refused run takes
@@ -127,6 +135,7 @@ impl Machine {
     }
 
     /// Where the machine is.
+    #[must_use]
     pub fn phase(&self) -> Phase {
         match self.row[0] {
             0 => Phase::Begin,
@@ -136,16 +145,19 @@ impl Machine {
     }
 
     /// The counter of the last packet taken.
+    #[must_use]
     pub fn last(&self) -> Option<ContinuityCounter> {
         ContinuityCounter::new(self.row[1] as u8).ok()
     }
 
     /// The packets taken: the index of the next one.
+    #[must_use]
     pub fn taken(&self) -> u32 {
         self.row[2] as u32
     }
 
     /// The next free byte of the log.
+    #[must_use]
     pub fn place(&self) -> usize {
         self.row[3] as usize
     }
@@ -190,8 +202,49 @@ pub enum EventKind {
     ContinuePacket = 3,
     /// The unit ended with the packet before.
     EndPacket = 4,
-    /// The counter breaks at this packet: the unit is not ended, and not whole.
+    /// This packet's counter does not follow the one before: the unit is not complete, and has no end.
     ContinuityError = 5,
+}
+
+impl TryFrom<u8> for EventKind {
+    type Error = Error;
+
+    /// The kind of this number in the log. [`Error::OutOfRange`] for a number that is not 1 to 5.
+    fn try_from(number: u8) -> Result<EventKind, Error> {
+        EventKind::of(number.into()).ok_or(Error::OutOfRange)
+    }
+}
+
+impl From<EventKind> for u8 {
+    fn from(kind: EventKind) -> u8 {
+        kind as u8
+    }
+}
+
+impl EventKind {
+    fn of(number: u64) -> Option<EventKind> {
+        Some(match number {
+            1 => EventKind::StartStream,
+            2 => EventKind::BeginPacket,
+            3 => EventKind::ContinuePacket,
+            4 => EventKind::EndPacket,
+            5 => EventKind::ContinuityError,
+            _ => return None,
+        })
+    }
+}
+
+/// The word that the event lister prints: `start`, `begin`, `continue`, `end` or `error`.
+impl fmt::Display for EventKind {
+    fn fmt(&self, f: &mut fmt::Formatter<'_>) -> fmt::Result {
+        f.pad(match self {
+            EventKind::StartStream => "start",
+            EventKind::BeginPacket => "begin",
+            EventKind::ContinuePacket => "continue",
+            EventKind::EndPacket => "end",
+            EventKind::ContinuityError => "error",
+        })
+    }
 }
 
 /// An event of a stream.
@@ -202,44 +255,57 @@ pub struct Event {
     pub kind: EventKind,
     /// The index of the packet, as its machine counts.
     pub index: u32,
-    /// The place of the payload in the packet, for a begin and a continue; else 0.
+    /// The offset of the payload in the packet, for a begin and a continue; else 0.
     pub place: u8,
     /// The length of the payload, for a begin and a continue; else 0.
     pub length: u8,
 }
 
 impl Event {
-    /// The entry at a place of a log. [`Error::OutOfRange`] where the log has none there, or the bytes are no entry.
+    /// The entry at an offset of a log.
+    ///
+    /// # Errors
+    ///
+    /// [`Error::OutOfRange`] if the log has none there, or the bytes are no entry.
     pub fn at(log: &[u8], at: usize) -> Result<Event, Error> {
         ffi::log_entry_at(log, at).and_then(Event::of)
     }
 
-    /// An event of the packet with this index, with the place and length of the payload.
+    /// An event of the packet with this index, with the offset and length of the payload.
+    #[must_use]
     pub fn new(kind: EventKind, index: u32, place: u8, length: u8) -> Event {
         Event { kind, index, place, length }
     }
 
     fn of([kind, index, place, length]: [u64; 4]) -> Result<Event, Error> {
-        let kind = match kind {
-            1 => EventKind::StartStream,
-            2 => EventKind::BeginPacket,
-            3 => EventKind::ContinuePacket,
-            4 => EventKind::EndPacket,
-            5 => EventKind::ContinuityError,
-            _ => return Err(unknown(kind)),
-        };
+        let kind = EventKind::of(kind).ok_or_else(|| unknown(kind))?;
         Ok(Event { kind, index: index as u32, place: place as u8, length: length as u8 })
     }
 
-    /// The event's part of its packet: the payload, for a begin and a continue. Empty where the packet has no such part.
+    /// The event's part of its packet: the payload, for a begin and a continue. Empty if the packet has no such part.
+    #[must_use]
     pub fn bytes<'buf>(&self, packet: &'buf [u8]) -> &'buf [u8] {
         let start = usize::from(self.place);
         packet.get(start..start + usize::from(self.length)).unwrap_or_default()
     }
 }
 
+/// The line that the event lister prints: index, kind, place and length.
+///
+/// ```
+/// use clomaverift::{Event, EventKind};
+///
+/// assert_eq!(Event::new(EventKind::ContinuePacket, 1, 4, 184).to_string(), "1 continue 4 184");
+/// ```
+impl fmt::Display for Event {
+    fn fmt(&self, f: &mut fmt::Formatter<'_>) -> fmt::Result {
+        write!(f, "{} {} {} {}", self.index, self.kind, self.place, self.length)
+    }
+}
+
 /// The events of a log, one after another; an entry that cannot be read is given as its refusal, and is the last.
 #[derive(Clone, Debug)]
+#[must_use = "an iterator does nothing before it is asked"]
 pub struct Events<'log> {
     log: &'log [u8],
     at: usize,
@@ -263,7 +329,14 @@ impl Iterator for Events<'_> {
         self.at = if event.is_ok() { self.at + ENTRY } else { self.log.len() };
         Some(event)
     }
+
+    fn size_hint(&self) -> (usize, Option<usize>) {
+        let left = self.log.len().saturating_sub(self.at);
+        (usize::from(left > 0), Some((left + ENTRY - 1) / ENTRY))
+    }
 }
+
+impl FusedIterator for Events<'_> {}
 
 #[cfg(test)]
 mod tests {
@@ -368,12 +441,18 @@ mod tests {
 
     #[test]
     fn bytes_that_are_no_log() {
-        let found: Vec<_> = Events::new(&[0; 24]).collect();
-        assert_eq!(found, [Err(Error::OutOfRange)]);
+        let mut events = Events::new(&[0; 20]);
+        assert_eq!(events.size_hint(), (1, Some(3)));
+        assert_eq!((events.next(), events.size_hint()), (Some(Err(Error::OutOfRange)), (0, Some(0))));
+        assert_eq!((events.next(), events.next()), (None, None));
         assert_eq!(Event::at(&[0; 24], 4), Err(Error::OutOfRange));
         let event = Event { kind: EventKind::BeginPacket, index: 0, place: 4, length: 2 };
         assert_eq!(event.bytes(&[0, 1, 2, 3, 4, 5]), [4, 5]);
         assert_eq!(event.bytes(&[0, 1, 2]), []);
         assert_eq!(Event::of([6, 0, 0, 0]), Err(Error::Unknown(6)));
+        for number in 0..=255 {
+            let kind = EventKind::try_from(number);
+            assert_eq!(kind.map(u8::from), if (1..=5).contains(&number) { Ok(number) } else { Err(Error::OutOfRange) });
+        }
     }
 }

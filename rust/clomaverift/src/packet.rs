@@ -3,12 +3,17 @@
 use crate::error::{sure, Error};
 use crate::ffi;
 use crate::pes::Timestamp;
-use std::fmt;
-use std::num::NonZeroU8;
+use core::cmp::Ordering;
+use core::fmt;
+use core::hash::{Hash, Hasher};
+use core::iter::FusedIterator;
+use core::num::NonZeroU8;
+use core::slice::Chunks;
+use core::time::Duration;
 
-/// A part of a slice, by place and length.
-pub(crate) fn part(buf: &[u8], [place, length]: [u64; 2]) -> &[u8] {
-    &buf[place as usize..][..length as usize]
+/// A part of a slice, by offset and length.
+pub(crate) fn part(buf: &[u8], [offset, length]: [u64; 2]) -> &[u8] {
+    &buf[offset as usize..][..length as usize]
 }
 
 /// A number that is a flag.
@@ -21,8 +26,14 @@ pub(crate) fn byte([value]: [u64; 1]) -> u8 {
     value as u8
 }
 
+/// A number of ticks of a clock, as the time since its 0, rounded down to nanoseconds.
+pub(crate) fn duration(ticks: u64, ticks_per_second: u64) -> Duration {
+    let nanoseconds = ticks % ticks_per_second * 1_000_000_000 / ticks_per_second;
+    Duration::new(ticks / ticks_per_second, nanoseconds as u32)
+}
+
 /// Whether a packet's fourth byte announces an adaptation field and a payload.
-#[derive(Clone, Copy, Debug, PartialEq, Eq)]
+#[derive(Clone, Copy, Debug, PartialEq, Eq, Hash)]
 pub struct AdaptationControl {
     adaptation_field: bool,
     payload: bool,
@@ -35,6 +46,7 @@ impl AdaptationControl {
     /// let control = clomaverift::AdaptationControl::new(0x1C);
     /// assert!(control.has_payload() && !control.has_adaptation_field());
     /// ```
+    #[must_use]
     pub fn new(header_byte: u8) -> AdaptationControl {
         AdaptationControl::of(sure(ffi::adaptation_control(header_byte)))
     }
@@ -44,18 +56,20 @@ impl AdaptationControl {
     }
 
     /// Whether a payload is announced.
+    #[must_use]
     pub fn has_payload(&self) -> bool {
         self.payload
     }
 
     /// Whether an adaptation field is announced.
+    #[must_use]
     pub fn has_adaptation_field(&self) -> bool {
         self.adaptation_field
     }
 }
 
 /// The scrambling bits of a packet.
-#[derive(Clone, Copy, Debug, PartialEq, Eq)]
+#[derive(Clone, Copy, Debug, PartialEq, Eq, Hash)]
 pub struct TransportScramblingControl {
     scheme: Option<NonZeroU8>,
 }
@@ -68,6 +82,7 @@ impl TransportScramblingControl {
     /// assert!(control.is_scrambled());
     /// assert_eq!(control.scheme().unwrap().get(), 2);
     /// ```
+    #[must_use]
     pub fn from_byte_four(val: u8) -> TransportScramblingControl {
         TransportScramblingControl::of(sure(ffi::transport_scrambling_control(val)))
     }
@@ -76,12 +91,14 @@ impl TransportScramblingControl {
         TransportScramblingControl { scheme: NonZeroU8::new(scheme as u8) }
     }
 
-    /// Whether the bits are other than 00.
+    /// Whether the bits are not 00.
+    #[must_use]
     pub fn is_scrambled(&self) -> bool {
         self.scheme.is_some()
     }
 
-    /// The value of the bits, if it is other than 0.
+    /// The value of the bits, if it is not 0.
+    #[must_use]
     pub fn scheme(&self) -> Option<NonZeroU8> {
         self.scheme
     }
@@ -89,11 +106,15 @@ impl TransportScramblingControl {
 
 /// A clock reference: a base of 33 bits at 90 kHz, and an extension of 9 bits in 300ths of it.
 ///
+/// Its `u64`, its `Display` and its order are those of the number at 27 MHz, base × 300 + extension; two that have the same number and
+/// are not equal, because an extension is 300 or more, are ordered by their base.
+///
 /// ```
 /// use clomaverift::{ClockRef, Error};
 ///
 /// let clock = ClockRef::from_parts(90_000, 15)?;
 /// assert_eq!(u64::from(clock), 27_000_015);
+/// assert_eq!(clock.to_string(), "27000015");
 /// assert_eq!(ClockRef::from_parts(1 << 33, 0), Err(Error::OutOfRange));
 /// # Ok::<(), Error>(())
 /// ```
@@ -104,12 +125,26 @@ pub struct ClockRef {
 }
 
 impl ClockRef {
-    /// Of the first 6 bytes of a slice. [`Error::WrongLength`] where there are fewer.
+    /// How many ticks of its number a second has.
+    pub const TIMEBASE: u64 = 300 * Timestamp::TIMEBASE;
+
+    /// How many ticks it has before it wraps: 2^33 × 300.
+    const TICKS: u64 = 300 << 33;
+
+    /// Of the first 6 bytes of a slice.
+    ///
+    /// # Errors
+    ///
+    /// [`Error::WrongLength`] for fewer than 6 bytes.
     pub fn from_slice(data: &[u8]) -> Result<ClockRef, Error> {
         ffi::clock_ref_from_slice(data).map(ClockRef::of)
     }
 
-    /// Of its two parts. [`Error::OutOfRange`] for a base of 2^33 or more or an extension of 512 or more.
+    /// Of its two parts.
+    ///
+    /// # Errors
+    ///
+    /// [`Error::OutOfRange`] for a base of 2^33 or more or an extension of 512 or more.
     pub fn from_parts(base: u64, extension: u16) -> Result<ClockRef, Error> {
         ffi::clock_ref_from_parts(base, extension).map(ClockRef::of)
     }
@@ -119,13 +154,49 @@ impl ClockRef {
     }
 
     /// The base, at 90 kHz.
+    #[must_use]
     pub fn base(&self) -> u64 {
         self.base
     }
 
     /// The extension, at 27 MHz.
+    #[must_use]
     pub fn extension(&self) -> u16 {
         self.extension
+    }
+
+    /// The ticks from `earlier` to `self` at 27 MHz, over a wrap too: the difference modulo 2^33 × 300.
+    ///
+    /// ```
+    /// use clomaverift::ClockRef;
+    ///
+    /// let last = ClockRef::from_parts((1 << 33) - 1, 299)?;
+    /// assert_eq!(ClockRef::from_parts(0, 4)?.since(last), 5);
+    /// # Ok::<(), clomaverift::Error>(())
+    /// ```
+    #[must_use]
+    pub fn since(self, earlier: ClockRef) -> u64 {
+        (u64::from(self) + ClockRef::TICKS - u64::from(earlier) % ClockRef::TICKS) % ClockRef::TICKS
+    }
+
+    /// The seconds since the clock was 0.
+    #[must_use]
+    pub fn as_seconds(self) -> f64 {
+        u64::from(self) as f64 / ClockRef::TIMEBASE as f64
+    }
+
+    /// The time since the clock was 0, rounded down to nanoseconds.
+    ///
+    /// ```
+    /// use clomaverift::ClockRef;
+    ///
+    /// let clock = ClockRef::from_parts(135_000, 27)?;
+    /// assert_eq!(clock.as_duration().as_micros(), 1_500_001);
+    /// # Ok::<(), clomaverift::Error>(())
+    /// ```
+    #[must_use]
+    pub fn as_duration(self) -> Duration {
+        duration(self.into(), ClockRef::TIMEBASE)
     }
 }
 
@@ -137,11 +208,36 @@ impl PartialEq for ClockRef {
 
 impl Eq for ClockRef {}
 
+impl Hash for ClockRef {
+    fn hash<H: Hasher>(&self, state: &mut H) {
+        (self.base, self.extension).hash(state);
+    }
+}
+
+impl Ord for ClockRef {
+    fn cmp(&self, other: &ClockRef) -> Ordering {
+        (u64::from(*self), self.base).cmp(&(u64::from(*other), other.base))
+    }
+}
+
+impl PartialOrd for ClockRef {
+    fn partial_cmp(&self, other: &ClockRef) -> Option<Ordering> {
+        Some(self.cmp(other))
+    }
+}
+
 /// Its number at 27 MHz.
 impl From<ClockRef> for u64 {
     fn from(clock: ClockRef) -> u64 {
         let [number] = sure(ffi::clock_ref_into_u64(clock.base, clock.extension));
         number
+    }
+}
+
+/// Its number at 27 MHz.
+impl fmt::Display for ClockRef {
+    fn fmt(&self, f: &mut fmt::Formatter<'_>) -> fmt::Result {
+        u64::from(*self).fmt(f)
     }
 }
 
@@ -167,6 +263,10 @@ pub struct ContinuityCounter {
 }
 
 impl ContinuityCounter {
+    /// The counter of this number.
+    ///
+    /// # Errors
+    ///
     /// [`Error::OutOfRange`] for a number above 15.
     pub fn new(count: u8) -> Result<ContinuityCounter, Error> {
         ffi::continuity_counter_new(count).map(ContinuityCounter::of)
@@ -177,11 +277,13 @@ impl ContinuityCounter {
     }
 
     /// Its number.
+    #[must_use]
     pub fn count(self) -> u8 {
         self.val
     }
 
-    /// Whether this counter is the one after the other, 0 being the one after 15.
+    /// Whether this counter is the one after `other`; after 15 comes 0.
+    #[must_use]
     pub fn follows(self, other: ContinuityCounter) -> bool {
         flag(sure(ffi::continuity_counter_follows(self.val, other.val)))
     }
@@ -195,12 +297,26 @@ impl TryFrom<u8> for ContinuityCounter {
     }
 }
 
+impl From<ContinuityCounter> for u8 {
+    fn from(counter: ContinuityCounter) -> u8 {
+        counter.val
+    }
+}
+
+impl fmt::Display for ContinuityCounter {
+    fn fmt(&self, f: &mut fmt::Formatter<'_>) -> fmt::Result {
+        self.val.fmt(f)
+    }
+}
+
 /// The identifier of a stream within the transport stream, 0 to 1FFF hex.
 ///
 /// ```
 /// use clomaverift::{Error, Pid};
 ///
-/// assert_eq!(u16::from(Pid::new(0x1FFF)?), Pid::MAX_VALUE);
+/// const VIDEO: Result<Pid, Error> = Pid::new(0x100);
+/// assert_eq!(u16::from(VIDEO?), 0x100);
+/// assert_eq!((VIDEO?.to_string(), format!("{:x}", VIDEO?)), ("0x0100".to_string(), "100".to_string()));
 /// assert_eq!(Pid::try_from(0x2000), Err(Error::OutOfRange));
 /// # Ok::<(), Error>(())
 /// ```
@@ -217,15 +333,29 @@ impl Pid {
     /// The PID of the program association table.
     pub const PAT: Pid = Pid(0);
 
-    /// The PID of packets without content.
+    /// The PID of the conditional access table.
+    pub const CAT: Pid = Pid(1);
+
+    /// The PID of the transport stream description table.
+    pub const TSDT: Pid = Pid(2);
+
+    /// The PID of packets without content, called null packets too.
     pub const STUFFING: Pid = Pid(Pid::MAX_VALUE);
 
+    /// The PID of this number.
+    ///
+    /// # Errors
+    ///
     /// [`Error::OutOfRange`] for a number above [`Pid::MAX_VALUE`].
-    pub fn new(pid: u16) -> Result<Pid, Error> {
-        ffi::pid_new(pid).map(Pid::of)
+    // A constant cannot call the library: a test holds this function to the library's over every number.
+    pub const fn new(pid: u16) -> Result<Pid, Error> {
+        if pid > Pid::MAX_VALUE {
+            return Err(Error::OutOfRange);
+        }
+        Ok(Pid(pid))
     }
 
-    fn of([value]: [u64; 1]) -> Pid {
+    pub(crate) fn of([value]: [u64; 1]) -> Pid {
         Pid(value as u16)
     }
 }
@@ -250,6 +380,25 @@ impl From<Pid> for usize {
     }
 }
 
+/// As `0x0100`.
+impl fmt::Display for Pid {
+    fn fmt(&self, f: &mut fmt::Formatter<'_>) -> fmt::Result {
+        write!(f, "0x{:04x}", self.0)
+    }
+}
+
+impl fmt::LowerHex for Pid {
+    fn fmt(&self, f: &mut fmt::Formatter<'_>) -> fmt::Result {
+        fmt::LowerHex::fmt(&self.0, f)
+    }
+}
+
+impl fmt::UpperHex for Pid {
+    fn fmt(&self, f: &mut fmt::Formatter<'_>) -> fmt::Result {
+        fmt::UpperHex::fmt(&self.0, f)
+    }
+}
+
 impl fmt::Debug for Pid {
     fn fmt(&self, f: &mut fmt::Formatter<'_>) -> fmt::Result {
         write!(f, "Pid({:04x})", self.0)
@@ -268,11 +417,12 @@ impl fmt::Debug for Pid {
 /// assert_eq!(packet.continuity_counter().count(), 3);
 /// assert_eq!(packet.payload().unwrap().len(), 184);
 /// assert!(packet.adaptation_field().is_none());
+/// assert_eq!(format!("{packet:?}"), "Packet(pid 0x0100, counter 3, start, payload of 184)");
 ///
 /// assert_eq!(Packet::try_new(&bytes[1..]).unwrap_err(), Error::WrongLength);
 /// # Ok::<(), Error>(())
 /// ```
-#[derive(Clone, Copy, Debug)]
+#[derive(Clone, Copy, PartialEq, Eq, Hash)]
 pub struct Packet<'buf> {
     buf: &'buf [u8],
 }
@@ -281,61 +431,75 @@ impl<'buf> Packet<'buf> {
     /// The first byte of every packet.
     pub const SYNC_BYTE: u8 = 0x47;
 
-    /// The bytes of a packet.
+    /// The length of a packet.
     pub const SIZE: usize = 188;
 
     /// Whether a packet may begin with this byte.
+    #[must_use]
     pub fn is_sync_byte(b: u8) -> bool {
         flag(sure(ffi::packet_is_sync_byte(b)))
     }
 
-    /// [`Error::WrongLength`] for other than 188 bytes, [`Error::NoSync`] where the first is not the sync byte.
+    /// The packet of these bytes. [`Packets`] goes over many.
+    ///
+    /// # Errors
+    ///
+    /// [`Error::WrongLength`] if there are not 188 bytes, [`Error::NoSync`] if the first one is not the sync byte.
     pub fn try_new(buf: &'buf [u8]) -> Result<Packet<'buf>, Error> {
         ffi::packet_try_new(buf)?;
         Ok(Packet { buf })
     }
 
     /// Whether an earlier receiver has marked the packet as damaged.
+    #[must_use]
     pub fn transport_error_indicator(&self) -> bool {
         flag(sure(ffi::packet_transport_error_indicator(self.buf)))
     }
 
     /// Whether a unit begins with this packet's payload.
+    #[must_use]
     pub fn payload_unit_start_indicator(&self) -> bool {
         flag(sure(ffi::packet_payload_unit_start_indicator(self.buf)))
     }
 
-    /// Whether the packet goes before others of its PID.
+    /// Whether the packet has priority over others of its PID.
+    #[must_use]
     pub fn transport_priority(&self) -> bool {
         flag(sure(ffi::packet_transport_priority(self.buf)))
     }
 
     /// The stream that the packet is of.
+    #[must_use]
     pub fn pid(&self) -> Pid {
         Pid::of(sure(ffi::packet_pid(self.buf)))
     }
 
     /// The scrambling bits.
+    #[must_use]
     pub fn transport_scrambling_control(&self) -> TransportScramblingControl {
         TransportScramblingControl::of(sure(ffi::packet_transport_scrambling_control(self.buf)))
     }
 
     /// Whether an adaptation field and a payload are announced.
+    #[must_use]
     pub fn adaptation_control(&self) -> AdaptationControl {
         AdaptationControl::of(sure(ffi::packet_adaptation_control(self.buf)))
     }
 
     /// The continuity counter.
+    #[must_use]
     pub fn continuity_counter(&self) -> ContinuityCounter {
         ContinuityCounter::of(sure(ffi::packet_continuity_counter(self.buf)))
     }
 
-    /// The adaptation field, if there is one whose length can be: 1 to 182 beside a payload, else 183.
+    /// The adaptation field, if there is one of a possible length: 1 to 182 with a payload, 183 without.
+    #[must_use]
     pub fn adaptation_field(&self) -> Option<AdaptationField<'buf>> {
         AdaptationField::of(self.buf, ffi::packet_adaptation_field(self.buf))
     }
 
     /// The payload, if there is one. It is never empty.
+    #[must_use]
     pub fn payload(&self) -> Option<&'buf [u8]> {
         self.payload_of(ffi::packet_payload(self.buf))
     }
@@ -357,6 +521,7 @@ impl<'buf> Packet<'buf> {
     /// assert_eq!(fields.payload, Some(&bytes[4..]));
     /// # Ok::<(), Error>(())
     /// ```
+    #[must_use]
     pub fn fields(&self) -> PacketFields<'buf> {
         let mut row = sure(ffi::packet_fields(self.buf));
         PacketFields {
@@ -373,20 +538,106 @@ impl<'buf> Packet<'buf> {
     }
 
     /// The packet's bytes.
+    #[must_use]
     pub fn buffer(&self) -> &'buf [u8] {
         self.buf
     }
 }
 
+impl<'buf> TryFrom<&'buf [u8]> for Packet<'buf> {
+    type Error = Error;
+
+    fn try_from(buf: &'buf [u8]) -> Result<Packet<'buf>, Error> {
+        Packet::try_new(buf)
+    }
+}
+
+/// The fields, and the lengths of adaptation field and payload, on one line.
+impl fmt::Debug for Packet<'_> {
+    fn fmt(&self, f: &mut fmt::Formatter<'_>) -> fmt::Result {
+        let fields = self.fields();
+        write!(f, "Packet(pid {}, counter {}", fields.pid, fields.continuity_counter)?;
+        let flags = [
+            (fields.transport_error_indicator, "error"),
+            (fields.payload_unit_start_indicator, "start"),
+            (fields.transport_priority, "priority"),
+            (fields.transport_scrambling_control.is_scrambled(), "scrambled"),
+        ];
+        flags.iter().filter(|(set, _)| *set).try_for_each(|(_, name)| write!(f, ", {name}"))?;
+        if let Some(field) = fields.adaptation_field {
+            write!(f, ", adaptation field of {}", field.buf.len())?;
+        }
+        if let Some(payload) = fields.payload {
+            write!(f, ", payload of {}", payload.len())?;
+        }
+        f.write_str(")")
+    }
+}
+
+/// The packets of a slice, one after another, 188 bytes each. Bytes that are no packet are given as their refusal, and the next 188 are
+/// read all the same: [`Error::NoSync`], or [`Error::WrongLength`] for bytes after the last whole packet.
+///
+/// ```
+/// use clomaverift::{Error, Packets, Unit};
+///
+/// let mut recording = Unit::new(0x100, 0xE0).packets(&[7; 300])?;
+/// recording.push(0x47);
+/// let mut packets = Packets::new(&recording);
+/// assert_eq!(packets.len(), 3);
+/// assert!(packets.next().unwrap()?.payload_unit_start_indicator());
+/// assert_eq!(packets.next().unwrap()?.continuity_counter().count(), 1);
+/// assert_eq!(packets.next(), Some(Err(Error::WrongLength)));
+/// assert_eq!(packets.next(), None);
+/// # Ok::<(), Error>(())
+/// ```
+#[derive(Clone, Debug)]
+#[must_use = "an iterator does nothing before it is asked"]
+pub struct Packets<'buf> {
+    chunks: Chunks<'buf, u8>,
+}
+
+impl<'buf> Packets<'buf> {
+    /// Of all the bytes.
+    pub fn new(bytes: &'buf [u8]) -> Packets<'buf> {
+        Packets { chunks: bytes.chunks(Packet::SIZE) }
+    }
+}
+
+impl<'buf> Iterator for Packets<'buf> {
+    type Item = Result<Packet<'buf>, Error>;
+
+    fn next(&mut self) -> Option<Result<Packet<'buf>, Error>> {
+        self.chunks.next().map(Packet::try_new)
+    }
+
+    fn size_hint(&self) -> (usize, Option<usize>) {
+        self.chunks.size_hint()
+    }
+
+    fn nth(&mut self, n: usize) -> Option<Result<Packet<'buf>, Error>> {
+        self.chunks.nth(n).map(Packet::try_new)
+    }
+}
+
+impl<'buf> DoubleEndedIterator for Packets<'buf> {
+    fn next_back(&mut self) -> Option<Result<Packet<'buf>, Error>> {
+        self.chunks.next_back().map(Packet::try_new)
+    }
+}
+
+impl ExactSizeIterator for Packets<'_> {}
+
+impl FusedIterator for Packets<'_> {}
+
 /// All that is read of a packet: each field is what the method of [`Packet`] with its name gives.
-#[derive(Clone, Copy, Debug, PartialEq, Eq)]
+#[derive(Clone, Copy, Debug, PartialEq, Eq, Hash)]
 #[non_exhaustive]
 pub struct PacketFields<'buf> {
     /// Whether an earlier receiver has marked the packet as damaged.
     pub transport_error_indicator: bool,
     /// Whether a unit begins with this packet's payload.
     pub payload_unit_start_indicator: bool,
-    /// Whether the packet goes before others of its PID.
+    /// Whether the packet has priority over others of its PID.
     pub transport_priority: bool,
     /// The stream that the packet is of.
     pub pid: Pid,
@@ -396,7 +647,7 @@ pub struct PacketFields<'buf> {
     pub transport_scrambling_control: TransportScramblingControl,
     /// Whether an adaptation field and a payload are announced.
     pub adaptation_control: AdaptationControl,
-    /// The adaptation field, if there is one whose length can be.
+    /// The adaptation field, if there is one of a possible length.
     pub adaptation_field: Option<AdaptationField<'buf>>,
     /// The payload, if there is one. It is never empty.
     pub payload: Option<&'buf [u8]>,
@@ -404,8 +655,7 @@ pub struct PacketFields<'buf> {
 
 /// An adaptation field, without its length byte.
 ///
-/// A field that is not flagged is [`Error::FieldNotPresent`], one that the adaptation field has too few bytes for
-/// [`Error::NotEnoughData`].
+/// Reading a field that is not flagged gives [`Error::FieldNotPresent`], reading one that is truncated [`Error::NotEnoughData`].
 ///
 /// ```
 /// use clomaverift::{AdaptationField, Error};
@@ -416,68 +666,112 @@ pub struct PacketFields<'buf> {
 /// assert_eq!(field.opcr(), Err(Error::FieldNotPresent));
 /// # Ok::<(), Error>(())
 /// ```
-#[derive(Clone, Copy, Debug, PartialEq, Eq)]
+#[derive(Clone, Copy, PartialEq, Eq, Hash)]
 pub struct AdaptationField<'buf> {
     buf: &'buf [u8],
 }
 
 impl<'buf> AdaptationField<'buf> {
-    /// [`Error::WrongLength`] for no bytes.
+    /// The adaptation field of these bytes.
+    ///
+    /// # Errors
+    ///
+    /// [`Error::WrongLength`] if there are none.
     pub fn new(buf: &'buf [u8]) -> Result<AdaptationField<'buf>, Error> {
         ffi::adaptation_field_discontinuity_indicator(buf)?;
         Ok(AdaptationField { buf })
     }
 
-    /// Of a packet, and the answer that says where the field lies in it.
-    fn of(packet: &'buf [u8], answer: Result<[u64; 2], Error>) -> Option<AdaptationField<'buf>> {
+    /// Of a packet, and the answer that gives the field's offset and length in it.
+    pub(crate) fn of(packet: &'buf [u8], answer: Result<[u64; 2], Error>) -> Option<AdaptationField<'buf>> {
         answer.ok().map(|lies| AdaptationField { buf: part(packet, lies) })
     }
 
-    /// Whether a break of the stream is announced.
+    /// Whether a discontinuity of the stream is announced.
+    #[must_use]
     pub fn discontinuity_indicator(&self) -> bool {
         flag(sure(ffi::adaptation_field_discontinuity_indicator(self.buf)))
     }
 
     /// Whether the stream can be entered here.
+    #[must_use]
     pub fn random_access_indicator(&self) -> bool {
         flag(sure(ffi::adaptation_field_random_access_indicator(self.buf)))
     }
 
-    /// 1 where the payload goes before others of its PID, else 0.
+    /// 1 if the payload has priority over others of its PID, else 0.
+    #[must_use]
     pub fn elementary_stream_priority_indicator(&self) -> u8 {
         flag(sure(ffi::adaptation_field_elementary_stream_priority_indicator(self.buf))).into()
     }
 
     /// The program clock reference.
+    ///
+    /// # Errors
+    ///
+    /// [`Error::FieldNotPresent`] if it is not flagged, [`Error::NotEnoughData`] if it is truncated.
     pub fn pcr(&self) -> Result<ClockRef, Error> {
         ffi::adaptation_field_pcr(self.buf).map(ClockRef::of)
     }
 
     /// The original program clock reference.
+    ///
+    /// # Errors
+    ///
+    /// [`Error::FieldNotPresent`] if it is not flagged, [`Error::NotEnoughData`] if it is truncated.
     pub fn opcr(&self) -> Result<ClockRef, Error> {
         ffi::adaptation_field_opcr(self.buf).map(ClockRef::of)
     }
 
-    /// The packets of this PID before a splicing point.
+    /// How many packets of this PID come before a splicing point, as the byte stands: above 127 it is a negative number in two's
+    /// complement.
+    ///
+    /// # Errors
+    ///
+    /// [`Error::FieldNotPresent`] if it is not flagged, [`Error::NotEnoughData`] if it is truncated.
     pub fn splice_countdown(&self) -> Result<u8, Error> {
         ffi::adaptation_field_splice_countdown(self.buf).map(byte)
     }
 
     /// The private data.
+    ///
+    /// # Errors
+    ///
+    /// [`Error::FieldNotPresent`] if it is not flagged, [`Error::NotEnoughData`] if it is truncated.
     pub fn transport_private_data(&self) -> Result<&'buf [u8], Error> {
         ffi::adaptation_field_transport_private_data(self.buf).map(|lies| part(self.buf, lies))
     }
 
-    /// The extension. One of no bytes is [`Error::NotEnoughData`].
+    /// The extension.
+    ///
+    /// # Errors
+    ///
+    /// [`Error::FieldNotPresent`] if it is not flagged, [`Error::NotEnoughData`] if it is truncated or has no bytes.
     pub fn adaptation_field_extension(&self) -> Result<AdaptationFieldExtension<'buf>, Error> {
         let lies = ffi::adaptation_field_extension(self.buf)?;
         Ok(AdaptationFieldExtension { buf: part(self.buf, lies) })
     }
 }
 
+/// Every field, or why it is not given.
+impl fmt::Debug for AdaptationField<'_> {
+    fn fmt(&self, f: &mut fmt::Formatter<'_>) -> fmt::Result {
+        f.debug_struct("AdaptationField")
+            .field("discontinuity_indicator", &self.discontinuity_indicator())
+            .field("random_access_indicator", &self.random_access_indicator())
+            .field("elementary_stream_priority_indicator", &self.elementary_stream_priority_indicator())
+            .field("pcr", &self.pcr())
+            .field("opcr", &self.opcr())
+            .field("splice_countdown", &self.splice_countdown())
+            .field("transport_private_data", &self.transport_private_data())
+            .field("adaptation_field_extension", &self.adaptation_field_extension())
+            .finish()
+    }
+}
+
 /// The extension of an adaptation field, without its length byte.
 ///
-/// A field that is not flagged is [`Error::FieldNotPresent`], one that the extension has too few bytes for [`Error::NotEnoughData`].
+/// Reading a field that is not flagged gives [`Error::FieldNotPresent`], reading one that is truncated [`Error::NotEnoughData`].
 ///
 /// ```
 /// use clomaverift::{AdaptationFieldExtension, Error};
@@ -487,13 +781,17 @@ impl<'buf> AdaptationField<'buf> {
 /// assert_eq!(extension.piecewise_rate(), Err(Error::FieldNotPresent));
 /// # Ok::<(), Error>(())
 /// ```
-#[derive(Clone, Copy, Debug)]
+#[derive(Clone, Copy, PartialEq, Eq, Hash)]
 pub struct AdaptationFieldExtension<'buf> {
     buf: &'buf [u8],
 }
 
 impl<'buf> AdaptationFieldExtension<'buf> {
-    /// [`Error::NotEnoughData`] for no bytes.
+    /// The extension of these bytes.
+    ///
+    /// # Errors
+    ///
+    /// [`Error::NotEnoughData`] if there are none.
     pub fn new(buf: &'buf [u8]) -> Result<AdaptationFieldExtension<'buf>, Error> {
         if buf.is_empty() {
             return Err(Error::NotEnoughData);
@@ -501,26 +799,50 @@ impl<'buf> AdaptationFieldExtension<'buf> {
         Ok(AdaptationFieldExtension { buf })
     }
 
-    /// The offset of the legal time window, or none where it is there and not valid.
+    /// The offset of the legal time window, or `None` if it is there and not valid.
+    ///
+    /// # Errors
+    ///
+    /// [`Error::FieldNotPresent`] if it is not flagged, [`Error::NotEnoughData`] if it is truncated.
     pub fn ltw_offset(&self) -> Result<Option<u16>, Error> {
         let [kind, offset] = ffi::adaptation_extension_ltw_offset(self.buf)?;
         Ok((kind == 1).then_some(offset as u16))
     }
 
     /// The piecewise rate.
+    ///
+    /// # Errors
+    ///
+    /// [`Error::FieldNotPresent`] if it is not flagged, [`Error::NotEnoughData`] if it is truncated.
     pub fn piecewise_rate(&self) -> Result<u32, Error> {
         ffi::adaptation_extension_piecewise_rate(self.buf).map(|[value]| value as u32)
     }
 
-    /// The seamless splice. [`Error::MarkerBitNotSet`] where its time has a marker bit that is 0.
+    /// The seamless splice.
+    ///
+    /// # Errors
+    ///
+    /// [`Error::FieldNotPresent`] if it is not flagged, [`Error::NotEnoughData`] if it is truncated, [`Error::MarkerBitNotSet`] if a
+    /// marker bit of its time is 0.
     pub fn seamless_splice(&self) -> Result<SeamlessSplice, Error> {
         let [splice_type, dts] = ffi::adaptation_extension_seamless_splice(self.buf)?;
         Ok(SeamlessSplice { splice_type: splice_type as u8, dts_next_au: Timestamp::of([dts]) })
     }
 }
 
+/// Every field, or why it is not given.
+impl fmt::Debug for AdaptationFieldExtension<'_> {
+    fn fmt(&self, f: &mut fmt::Formatter<'_>) -> fmt::Result {
+        f.debug_struct("AdaptationFieldExtension")
+            .field("ltw_offset", &self.ltw_offset())
+            .field("piecewise_rate", &self.piecewise_rate())
+            .field("seamless_splice", &self.seamless_splice())
+            .finish()
+    }
+}
+
 /// The seamless splice of an adaptation field's extension.
-#[derive(Clone, Copy, Debug, PartialEq, Eq)]
+#[derive(Clone, Copy, Debug, PartialEq, Eq, Hash)]
 pub struct SeamlessSplice {
     /// What the splice demands of the decoder.
     pub splice_type: u8,
@@ -540,6 +862,45 @@ mod tests {
     }
 
     #[test]
+    fn pids_are_the_librarys() {
+        for number in 0..=u16::MAX {
+            assert_eq!(Pid::new(number), ffi::constants::pid_new(number).map(Pid::of));
+            assert_eq!(Pid::new(number), Pid::try_from(number));
+        }
+        assert_eq!([Pid::PAT, Pid::CAT, Pid::TSDT, Pid::STUFFING].map(u16::from), [0, 1, 2, 0x1FFF]);
+    }
+
+    #[test]
+    fn clock_references_in_order() {
+        let clock = |base, extension| ClockRef::from_parts(base, extension).unwrap();
+        let ordered =
+            [clock(0, 0), clock(0, 299), clock(0, 300), clock(1, 0), clock(0, 301), clock((1 << 33) - 1, 511)];
+        let mut sorted = ordered;
+        sorted.reverse();
+        sorted.sort();
+        assert_eq!(sorted, ordered);
+        assert_eq!(clock(0, 300).cmp(&clock(1, 0)), Ordering::Less); // one number, two references
+        let numbers = [0, 299, 300, 300, 301, (((1 << 33) - 1) * 300) + 511];
+        assert_eq!(sorted.map(u64::from), numbers);
+        // The last is past the wrap, as its extension is above 299.
+        assert_eq!((clock(0, 211).since(ordered[5]), ordered[5].since(clock(0, 0))), (0, 211));
+        assert_eq!((clock(1, 0).since(clock(0, 1)), clock(0, 1).since(clock(1, 0))), (299, (300 << 33) - 299));
+        assert_eq!((clock(45_000, 0).as_seconds(), clock(45_000, 0).as_duration().as_millis()), (0.5, 500));
+    }
+
+    #[test]
+    fn packets_of_a_slice() {
+        let mut bytes = [0x47; 3 * Packet::SIZE + 5];
+        bytes[Packet::SIZE] = 0;
+        let found: Vec<_> = Packets::new(&bytes).map(|packet| packet.map(|packet| packet.buffer().len())).collect();
+        assert_eq!(found, [Ok(188), Err(Error::NoSync), Ok(188), Err(Error::WrongLength)]);
+        let mut packets = Packets::new(&bytes);
+        assert_eq!((packets.len(), packets.next_back()), (4, Some(Err(Error::WrongLength))));
+        assert_eq!((packets.nth(1), packets.len()), (Some(Err(Error::NoSync)), 1));
+        assert!(Packets::new(&[]).next().is_none());
+    }
+
+    #[test]
     fn flags_of_a_packet() {
         let mut bytes = [0; Packet::SIZE];
         bytes[..5].copy_from_slice(&[0x47, 0xBF, 0xFF, 0xF9, 7]);
@@ -551,6 +912,8 @@ mod tests {
         assert_eq!(packet.continuity_counter(), ContinuityCounter::new(9).unwrap());
         assert_eq!(packet.adaptation_control(), AdaptationControl::new(0x30));
         assert_eq!(packet.payload().unwrap().len(), 176);
+        let text = "Packet(pid 0x1fff, counter 9, error, priority, scrambled, adaptation field of 7, payload of 176)";
+        assert_eq!((format!("{packet:?}"), format!("{packet:#?}")), (text.to_string(), text.to_string()));
         bytes[0] = 0;
         assert_eq!(Packet::try_new(&bytes).unwrap_err(), Error::NoSync);
     }

@@ -2,17 +2,29 @@
 
 use crate::error::{sure, unknown, Error};
 use crate::ffi;
-use crate::packet::{byte, flag, part, ClockRef};
-use std::fmt;
-use std::num::NonZeroU16;
+use crate::packet::{byte, duration, flag, part, ClockRef};
+use core::cmp::Ordering;
+use core::fmt;
+use core::num::NonZeroU16;
+use core::time::Duration;
 
 /// The length that a PES header gives.
-#[derive(Clone, Copy, Debug, PartialEq, Eq)]
+#[derive(Clone, Copy, Debug, PartialEq, Eq, Hash)]
 pub enum PesLength {
     /// The packet goes on until the next one begins. The standard allows this for video alone.
     Unbounded,
-    /// The bytes after the length's own.
+    /// The number of bytes after the length field.
     Bounded(NonZeroU16),
+}
+
+/// The length, or `unbounded`.
+impl fmt::Display for PesLength {
+    fn fmt(&self, f: &mut fmt::Formatter<'_>) -> fmt::Result {
+        match self {
+            PesLength::Unbounded => f.pad("unbounded"),
+            PesLength::Bounded(length) => length.fmt(f),
+        }
+    }
 }
 
 /// The stream id of a PES header.
@@ -30,7 +42,7 @@ pub enum PesLength {
 pub struct StreamId {
     /// The id; C0 or E0 hex for all audio or video; 0 for an id that has no name.
     kind: u8,
-    /// What is to be added to the kind.
+    /// The rest of the id's bits.
     low: u8,
 }
 
@@ -78,21 +90,50 @@ impl StreamId {
     }
 
     /// The id's number.
+    #[must_use]
     pub fn number(&self) -> u8 {
         self.kind | self.low
     }
 
     /// Of an audio stream, its number: the low five bits of the id.
+    #[must_use]
     pub fn audio(&self) -> Option<u8> {
         (self.kind == AUDIO).then_some(self.low)
     }
 
     /// Of a video stream, its number: the low five bits of the id.
+    #[must_use]
     pub fn video(&self) -> Option<u8> {
         (self.kind == VIDEO).then_some(self.low)
     }
 }
 
+impl From<StreamId> for u8 {
+    fn from(id: StreamId) -> u8 {
+        id.number()
+    }
+}
+
+impl Ord for StreamId {
+    fn cmp(&self, other: &StreamId) -> Ordering {
+        self.number().cmp(&other.number())
+    }
+}
+
+impl PartialOrd for StreamId {
+    fn partial_cmp(&self, other: &StreamId) -> Option<Ordering> {
+        Some(self.cmp(other))
+    }
+}
+
+/// As `0xe0`.
+impl fmt::Display for StreamId {
+    fn fmt(&self, f: &mut fmt::Formatter<'_>) -> fmt::Result {
+        write!(f, "0x{:02x}", self.number())
+    }
+}
+
+/// By its name: `Video(0)`, `Audio(0)`, `PRIVATE_STREAM1`, `Unknown(0)`.
 impl fmt::Debug for StreamId {
     fn fmt(&self, f: &mut fmt::Formatter<'_>) -> fmt::Result {
         match self.kind {
@@ -117,30 +158,37 @@ impl fmt::Debug for StreamId {
 /// assert_eq!(PesHeader::from_bytes(&[0, 0, 2, 0xBF, 0, 3]).unwrap_err(), Error::BadStartCode);
 /// # Ok::<(), Error>(())
 /// ```
-#[derive(Clone, Copy, Debug)]
+#[derive(Clone, Copy, PartialEq, Eq, Hash)]
 pub struct PesHeader<'buf> {
     buf: &'buf [u8],
 }
 
 impl<'buf> PesHeader<'buf> {
-    /// [`Error::ShortHeader`] for under 6 bytes, [`Error::BadStartCode`] where the first three are not 00 00 01.
+    /// The header at the start of these bytes.
+    ///
+    /// # Errors
+    ///
+    /// [`Error::ShortHeader`] for fewer than 6 bytes, [`Error::BadStartCode`] if the first three are not 00 00 01.
     pub fn from_bytes(buf: &'buf [u8]) -> Result<PesHeader<'buf>, Error> {
         ffi::pes_header_from_bytes(buf)?;
         Ok(PesHeader { buf })
     }
 
-    /// What stream the packet is of.
+    /// What kind of stream the packet is of.
+    #[must_use]
     pub fn stream_id(&self) -> StreamId {
         StreamId::of(sure(ffi::pes_header_stream_id(self.buf)))
     }
 
     /// The length that the header gives.
+    #[must_use]
     pub fn pes_packet_length(&self) -> PesLength {
         let [_, length] = sure(ffi::pes_header_pes_packet_length(self.buf));
         NonZeroU16::new(length as u16).map_or(PesLength::Unbounded, PesLength::Bounded)
     }
 
     /// What follows the six bytes of the header, by the stream id: parsed contents, or a payload alone.
+    #[must_use]
     pub fn contents(&self) -> PesContents<'buf> {
         let [kind, place, length] = sure(ffi::pes_header_contents(self.buf));
         let rest = part(self.buf, [place, length]);
@@ -152,6 +200,10 @@ impl<'buf> PesHeader<'buf> {
     }
 
     /// The payload in these bytes, of either kind of contents.
+    ///
+    /// # Errors
+    ///
+    /// Those of [`PesParsedContents::from_bytes`], for parsed contents.
     pub fn payload(&self) -> Result<&'buf [u8], Error> {
         match self.contents() {
             PesContents::Payload(payload) => Ok(payload),
@@ -160,8 +212,16 @@ impl<'buf> PesHeader<'buf> {
     }
 }
 
+/// The stream id, the length that the header gives, and how many bytes follow the header, on one line.
+impl fmt::Debug for PesHeader<'_> {
+    fn fmt(&self, f: &mut fmt::Formatter<'_>) -> fmt::Result {
+        let (id, length) = (self.stream_id(), self.pes_packet_length());
+        write!(f, "PesHeader({id:?}, length {length}, {} bytes)", self.buf.len() - 6)
+    }
+}
+
 /// What follows the six bytes of a PES header.
-#[derive(Clone, Copy, Debug)]
+#[derive(Clone, Copy, Debug, PartialEq, Eq, Hash)]
 pub enum PesContents<'buf> {
     /// More header fields and a payload, or why they are refused.
     Parsed(Result<PesParsedContents<'buf>, Error>),
@@ -169,8 +229,22 @@ pub enum PesContents<'buf> {
     Payload(&'buf [u8]),
 }
 
+impl<'buf> PesContents<'buf> {
+    /// The parsed contents.
+    ///
+    /// # Errors
+    ///
+    /// Those of [`PesParsedContents::from_bytes`]; [`Error::FieldNotPresent`] for a payload alone.
+    pub fn parsed(self) -> Result<PesParsedContents<'buf>, Error> {
+        match self {
+            PesContents::Parsed(parsed) => parsed,
+            PesContents::Payload(_) => Err(Error::FieldNotPresent),
+        }
+    }
+}
+
 /// A mode in which a medium plays other than forward at its own speed.
-#[derive(Clone, Copy, Debug, PartialEq, Eq)]
+#[derive(Clone, Copy, Debug, PartialEq, Eq, Hash)]
 #[allow(missing_docs)]
 pub enum DsmTrickMode {
     FastForward {
@@ -219,7 +293,7 @@ impl DsmTrickMode {
 }
 
 /// Which coefficients a picture of a trick mode has.
-#[derive(Clone, Copy, Debug, PartialEq, Eq)]
+#[derive(Clone, Copy, Debug, PartialEq, Eq, Hash)]
 pub enum FrequencyTruncationCoefficientSelection {
     /// The DC coefficient alone is other than zero.
     DCNonZero,
@@ -252,11 +326,15 @@ impl FrequencyTruncationCoefficientSelection {
 /// assert_eq!(EsRate::new(1 << 22), Err(Error::OutOfRange));
 /// # Ok::<(), Error>(())
 /// ```
-#[derive(Clone, Copy, Debug, PartialEq, Eq, Hash)]
+#[derive(Clone, Copy, Debug, PartialEq, Eq, Hash, PartialOrd, Ord)]
 pub struct EsRate(u32);
 
 impl EsRate {
-    /// [`Error::OutOfRange`] from 2^22 on.
+    /// The rate of this number.
+    ///
+    /// # Errors
+    ///
+    /// [`Error::OutOfRange`] for 2^22 or more.
     pub fn new(es_rate: u32) -> Result<EsRate, Error> {
         ffi::es_rate_new(es_rate).map(EsRate::of)
     }
@@ -266,12 +344,29 @@ impl EsRate {
     }
 
     /// The rate in bytes a second.
+    #[must_use]
     pub fn bytes_per_second(&self) -> u32 {
         let [rate] = sure(ffi::es_rate_bytes_per_second(self.0));
         rate as u32
     }
 }
 
+impl TryFrom<u32> for EsRate {
+    type Error = Error;
+
+    fn try_from(es_rate: u32) -> Result<EsRate, Error> {
+        EsRate::new(es_rate)
+    }
+}
+
+/// In bytes a second, as `3750 B/s`.
+impl fmt::Display for EsRate {
+    fn fmt(&self, f: &mut fmt::Formatter<'_>) -> fmt::Result {
+        write!(f, "{} B/s", self.bytes_per_second())
+    }
+}
+
+/// In units of 50 bytes a second.
 impl From<EsRate> for u32 {
     fn from(rate: EsRate) -> u32 {
         rate.0
@@ -279,18 +374,19 @@ impl From<EsRate> for u32 {
 }
 
 /// The extension of a PES header. What it holds is not read.
-#[derive(Clone, Copy, Debug, PartialEq, Eq)]
+#[derive(Clone, Copy, Debug, PartialEq, Eq, Hash)]
 pub struct PesExtension<'buf> {
     buf: &'buf [u8],
 }
 
 impl<'buf> PesExtension<'buf> {
-    /// Of parsed contents, and where the extension lies in them.
+    /// Of parsed contents, and the extension's offset and length in them.
     fn of(contents: &'buf [u8], lies: [u64; 2]) -> PesExtension<'buf> {
         PesExtension { buf: part(contents, lies) }
     }
 
     /// The extension's bytes, with the stuffing after it.
+    #[must_use]
     pub fn buffer(&self) -> &'buf [u8] {
         self.buf
     }
@@ -298,7 +394,7 @@ impl<'buf> PesExtension<'buf> {
 
 /// The fields after the six bytes of a PES header, and the payload after them.
 ///
-/// A field that is not flagged is [`Error::FieldNotPresent`].
+/// Reading a field that is not flagged gives [`Error::FieldNotPresent`].
 ///
 /// ```
 /// use clomaverift::{Error, PesParsedContents, PtsDts, Timestamp};
@@ -311,85 +407,124 @@ impl<'buf> PesExtension<'buf> {
 /// assert_eq!(PesParsedContents::from_bytes(&[0xC0, 0, 0]).unwrap_err(), Error::BadCheckBits);
 /// # Ok::<(), Error>(())
 /// ```
-#[derive(Clone, Copy, Debug)]
+#[derive(Clone, Copy, PartialEq, Eq, Hash)]
 pub struct PesParsedContents<'buf> {
     buf: &'buf [u8],
 }
 
 impl<'buf> PesParsedContents<'buf> {
-    /// [`Error::ShortContents`], [`Error::BadCheckBits`], [`Error::HeaderPastBuffer`] or [`Error::FieldsPastHeader`] where the bytes
-    /// are no contents, in this order.
+    /// The contents at the start of these bytes.
+    ///
+    /// # Errors
+    ///
+    /// [`Error::ShortContents`], [`Error::BadCheckBits`], [`Error::HeaderPastBuffer`] or [`Error::FieldsPastHeader`] if the bytes are no
+    /// contents, in this order.
     pub fn from_bytes(buf: &'buf [u8]) -> Result<PesParsedContents<'buf>, Error> {
         ffi::pes_contents_from_bytes(buf)?;
         Ok(PesParsedContents { buf })
     }
 
-    /// 1 where the packet goes before others, else 0.
+    /// 1 if the packet has priority over others, else 0.
+    #[must_use]
     pub fn pes_priority(&self) -> u8 {
         byte(sure(ffi::pes_contents_pes_priority(self.buf)))
     }
 
     /// The scrambling bits of the payload.
+    #[must_use]
     pub fn pes_scrambling_control(&self) -> u8 {
         byte(sure(ffi::pes_contents_pes_scrambling_control(self.buf)))
     }
 
     /// The flag byte.
+    #[must_use]
     pub fn flags(&self) -> u8 {
         byte(sure(ffi::pes_contents_flags(self.buf)))
     }
 
-    /// The bytes of the fields and of the stuffing after them.
+    /// The length of the fields and of the stuffing after them.
+    #[must_use]
     pub fn pes_header_data_len(&self) -> u8 {
         byte(sure(ffi::pes_contents_pes_header_data_len(self.buf)))
     }
 
     /// Whether an access unit begins with the payload.
+    #[must_use]
     pub fn data_alignment_indicator(&self) -> DataAlignment {
         DataAlignment::of(sure(ffi::pes_contents_data_alignment_indicator(self.buf)))
     }
 
     /// The copyright bit, as mpeg2ts-reader reads it: 1 is undefined.
+    #[must_use]
     pub fn copyright(&self) -> Copyright {
         Copyright::of(sure(ffi::pes_contents_copyright(self.buf)))
     }
 
     /// Whether the payload is an original or a copy.
+    #[must_use]
     pub fn original_or_copy(&self) -> OriginalOrCopy {
         OriginalOrCopy::of(sure(ffi::pes_contents_original_or_copy(self.buf)))
     }
 
-    /// The timestamps. [`Error::PtsDtsFlagsInvalid`] where the flags announce a DTS alone.
+    /// The timestamps.
+    ///
+    /// # Errors
+    ///
+    /// [`Error::FieldNotPresent`] if none is flagged, [`Error::PtsDtsFlagsInvalid`] if a DTS alone is.
     pub fn pts_dts(&self) -> Result<PtsDts, Error> {
         ffi::pes_contents_pts_dts(self.buf).and_then(PtsDts::of)
     }
 
     /// The elementary stream clock reference.
+    ///
+    /// # Errors
+    ///
+    /// [`Error::FieldNotPresent`] if it is not flagged.
     pub fn escr(&self) -> Result<ClockRef, Error> {
         ffi::pes_contents_escr(self.buf).map(ClockRef::of)
     }
 
     /// The elementary stream rate.
+    ///
+    /// # Errors
+    ///
+    /// [`Error::FieldNotPresent`] if it is not flagged.
     pub fn es_rate(&self) -> Result<EsRate, Error> {
         ffi::pes_contents_es_rate(self.buf).map(EsRate::of)
     }
 
     /// The trick mode.
+    ///
+    /// # Errors
+    ///
+    /// [`Error::FieldNotPresent`] if it is not flagged.
     pub fn dsm_trick_mode(&self) -> Result<DsmTrickMode, Error> {
         ffi::pes_contents_dsm_trick_mode(self.buf).and_then(DsmTrickMode::of)
     }
 
     /// The trick mode's byte.
+    ///
+    /// # Errors
+    ///
+    /// [`Error::FieldNotPresent`] if it is not flagged.
     pub fn raw_trick_mode(&self) -> Result<u8, Error> {
         ffi::pes_contents_raw_trick_mode(self.buf).map(byte)
     }
 
-    /// The additional copy info, of 7 bits. [`Error::MarkerBitNotSet`] with bit 0 where its first bit is 0.
+    /// The additional copy info, of 7 bits.
+    ///
+    /// # Errors
+    ///
+    /// [`Error::FieldNotPresent`] if it is not flagged, [`Error::MarkerBitNotSet`] with bit 0 if the bit before it is 0.
     pub fn additional_copy_info(&self) -> Result<u8, Error> {
         ffi::pes_contents_additional_copy_info(self.buf).map(byte)
     }
 
-    /// The check sum of the PES packet before. It is not checked.
+    /// The checksum of the previous PES packet. It is not checked.
+    ///
+    /// # Errors
+    ///
+    /// [`Error::FieldNotPresent`] if it is not flagged.
     pub fn previous_pes_packet_crc(&self) -> Result<u16, Error> {
         ffi::pes_contents_previous_pes_packet_crc(self.buf).map(PesParsedContents::crc)
     }
@@ -399,11 +534,16 @@ impl<'buf> PesParsedContents<'buf> {
     }
 
     /// The extension.
+    ///
+    /// # Errors
+    ///
+    /// [`Error::FieldNotPresent`] if it is not flagged.
     pub fn pes_extension(&self) -> Result<PesExtension<'buf>, Error> {
         ffi::pes_contents_pes_extension(self.buf).map(|lies| PesExtension::of(self.buf, lies))
     }
 
     /// The part of the payload that is in these bytes. It may be empty.
+    #[must_use]
     pub fn payload(&self) -> &'buf [u8] {
         part(self.buf, sure(ffi::pes_contents_payload(self.buf)))
     }
@@ -420,6 +560,7 @@ impl<'buf> PesParsedContents<'buf> {
     /// assert_eq!(fields.payload, [1, 2]);
     /// # Ok::<(), Error>(())
     /// ```
+    #[must_use]
     pub fn fields(&self) -> PesFields<'buf> {
         let mut row = sure(ffi::pes_contents_fields(self.buf));
         PesFields {
@@ -443,13 +584,35 @@ impl<'buf> PesParsedContents<'buf> {
     }
 }
 
+/// Every field, or why it is not given, and the length of the payload.
+impl fmt::Debug for PesParsedContents<'_> {
+    fn fmt(&self, f: &mut fmt::Formatter<'_>) -> fmt::Result {
+        let fields = self.fields();
+        f.debug_struct("PesParsedContents")
+            .field("pes_scrambling_control", &fields.pes_scrambling_control)
+            .field("pes_priority", &fields.pes_priority)
+            .field("data_alignment_indicator", &fields.data_alignment_indicator)
+            .field("copyright", &fields.copyright)
+            .field("original_or_copy", &fields.original_or_copy)
+            .field("pts_dts", &fields.pts_dts)
+            .field("escr", &fields.escr)
+            .field("es_rate", &fields.es_rate)
+            .field("dsm_trick_mode", &fields.dsm_trick_mode)
+            .field("additional_copy_info", &fields.additional_copy_info)
+            .field("previous_pes_packet_crc", &fields.previous_pes_packet_crc)
+            .field("pes_extension", &fields.pes_extension)
+            .field("payload", &fields.payload.len())
+            .finish()
+    }
+}
+
 /// All that is read of parsed contents: each field is what the method of [`PesParsedContents`] with its name gives.
-#[derive(Clone, Copy, Debug, PartialEq, Eq)]
+#[derive(Clone, Copy, Debug, PartialEq, Eq, Hash)]
 #[non_exhaustive]
 pub struct PesFields<'buf> {
     /// The scrambling bits of the payload.
     pub pes_scrambling_control: u8,
-    /// 1 where the packet goes before others, else 0.
+    /// 1 if the packet has priority over others, else 0.
     pub pes_priority: u8,
     /// Whether an access unit begins with the payload.
     pub data_alignment_indicator: DataAlignment,
@@ -459,7 +622,7 @@ pub struct PesFields<'buf> {
     pub original_or_copy: OriginalOrCopy,
     /// The flag byte.
     pub flags: u8,
-    /// The bytes of the fields and of the stuffing after them.
+    /// The length of the fields and of the stuffing after them.
     pub pes_header_data_len: u8,
     /// The timestamps.
     pub pts_dts: Result<PtsDts, Error>,
@@ -473,7 +636,7 @@ pub struct PesFields<'buf> {
     pub raw_trick_mode: Result<u8, Error>,
     /// The additional copy info, of 7 bits.
     pub additional_copy_info: Result<u8, Error>,
-    /// The check sum of the PES packet before.
+    /// The checksum of the previous PES packet.
     pub previous_pes_packet_crc: Result<u16, Error>,
     /// The extension.
     pub pes_extension: Result<PesExtension<'buf>, Error>,
@@ -481,12 +644,13 @@ pub struct PesFields<'buf> {
     pub payload: &'buf [u8],
 }
 
-/// A timestamp of 33 bits, at 90 kHz.
+/// A timestamp of 33 bits, at 90 kHz. Its order is that of its number, also where the clock wrapped between two.
 ///
 /// ```
 /// use clomaverift::{Error, Timestamp};
 ///
-/// assert_eq!(Timestamp::from_pts_bytes(&[0x21, 0, 5, 0xBF, 0x21])?.value(), 90_000);
+/// let time = Timestamp::from_pts_bytes(&[0x21, 0, 5, 0xBF, 0x21])?;
+/// assert_eq!((time.value(), time.as_seconds()), (90_000, 1.0));
 /// assert_eq!(Timestamp::from_pts_bytes(&[0x21, 0, 5]), Err(Error::WrongLength));
 /// # Ok::<(), Error>(())
 /// ```
@@ -499,25 +663,46 @@ impl Timestamp {
     /// The largest timestamp that can be read.
     pub const MAX: Timestamp = Timestamp { val: (1 << 33) - 1 };
 
-    /// How many timestamps a second has.
+    /// How many ticks a second has.
     pub const TIMEBASE: u64 = 90_000;
 
-    /// A PTS that stands alone: the bits before it are 0010. The first 5 bytes count.
+    /// How many ticks there are before it wraps: 2^33.
+    const TICKS: u64 = 1 << 33;
+
+    /// A PTS that stands alone: its prefix bits are 0010. The first 5 bytes count.
+    ///
+    /// # Errors
+    ///
+    /// [`Error::WrongLength`] for fewer than 5 bytes, [`Error::IncorrectPrefixBits`] for other prefix bits,
+    /// [`Error::MarkerBitNotSet`] if a marker bit is 0.
     pub fn from_pts_bytes(buf: &[u8]) -> Result<Timestamp, Error> {
         ffi::timestamp_from_pts_bytes(buf).map(Timestamp::of)
     }
 
-    /// A DTS: the bits before it are 0001. The first 5 bytes count.
+    /// A DTS: its prefix bits are 0001. The first 5 bytes count.
+    ///
+    /// # Errors
+    ///
+    /// [`Error::WrongLength`] for fewer than 5 bytes, [`Error::IncorrectPrefixBits`] for other prefix bits,
+    /// [`Error::MarkerBitNotSet`] if a marker bit is 0.
     pub fn from_dts_bytes(buf: &[u8]) -> Result<Timestamp, Error> {
         ffi::timestamp_from_dts_bytes(buf).map(Timestamp::of)
     }
 
-    /// A timestamp, whatever the bits before it are. The first 5 bytes count.
+    /// A timestamp with any prefix bits. The first 5 bytes count.
+    ///
+    /// # Errors
+    ///
+    /// [`Error::WrongLength`] for fewer than 5 bytes, [`Error::MarkerBitNotSet`] if a marker bit is 0.
     pub fn from_bytes(buf: &[u8]) -> Result<Timestamp, Error> {
         ffi::timestamp_from_bytes(buf).map(Timestamp::of)
     }
 
-    /// [`Error::OutOfRange`] from 2^34 on.
+    /// The timestamp of this number. As in mpeg2ts-reader, a number of 34 bits is taken.
+    ///
+    /// # Errors
+    ///
+    /// [`Error::OutOfRange`] for 2^34 or more.
     pub fn from_u64(val: u64) -> Result<Timestamp, Error> {
         ffi::timestamp_from_u64(val).map(Timestamp::of)
     }
@@ -527,11 +712,46 @@ impl Timestamp {
     }
 
     /// Its number.
+    #[must_use]
     pub fn value(self) -> u64 {
         self.val
     }
 
-    /// Whether the time has probably begun anew at 0 since the other: it is not later, by 2^32 or more.
+    /// The ticks from `earlier` to `self`, over a wrap too: the difference modulo 2^33.
+    ///
+    /// ```
+    /// use clomaverift::Timestamp;
+    ///
+    /// let soon = Timestamp::from_u64(3_599)?;
+    /// assert_eq!(soon.since(Timestamp::MAX), 3_600);
+    /// assert_eq!(Timestamp::MAX.since(soon), (1 << 33) - 3_600);
+    /// # Ok::<(), clomaverift::Error>(())
+    /// ```
+    #[must_use]
+    pub fn since(self, earlier: Timestamp) -> u64 {
+        self.val.wrapping_sub(earlier.val) % Timestamp::TICKS
+    }
+
+    /// The seconds since the clock was 0.
+    #[must_use]
+    pub fn as_seconds(self) -> f64 {
+        self.val as f64 / Timestamp::TIMEBASE as f64
+    }
+
+    /// The time since the clock was 0, rounded down to nanoseconds.
+    ///
+    /// ```
+    /// use clomaverift::Timestamp;
+    ///
+    /// assert_eq!(Timestamp::from_u64(135_001)?.as_duration().as_nanos(), 1_500_011_111);
+    /// # Ok::<(), clomaverift::Error>(())
+    /// ```
+    #[must_use]
+    pub fn as_duration(self) -> Duration {
+        duration(self.val, Timestamp::TIMEBASE)
+    }
+
+    /// Whether the clock probably wrapped between `since` and `self`: `self` is at least 2^32 below `since`.
     ///
     /// ```
     /// use clomaverift::Timestamp;
@@ -541,13 +761,35 @@ impl Timestamp {
     /// assert!(!now.likely_wrapped_since(Timestamp::from_u64(4_294_967_295)?));
     /// # Ok::<(), clomaverift::Error>(())
     /// ```
+    #[must_use]
     pub fn likely_wrapped_since(self, since: Timestamp) -> bool {
         flag(sure(ffi::timestamp_likely_wrapped_since(self.val, since.val)))
     }
 }
 
+impl TryFrom<u64> for Timestamp {
+    type Error = Error;
+
+    fn try_from(val: u64) -> Result<Timestamp, Error> {
+        Timestamp::from_u64(val)
+    }
+}
+
+impl From<Timestamp> for u64 {
+    fn from(time: Timestamp) -> u64 {
+        time.val
+    }
+}
+
+/// Its number.
+impl fmt::Display for Timestamp {
+    fn fmt(&self, f: &mut fmt::Formatter<'_>) -> fmt::Result {
+        self.val.fmt(f)
+    }
+}
+
 /// The timestamps of a PES header, each with a refusal of its own.
-#[derive(Clone, Copy, Debug, PartialEq, Eq)]
+#[derive(Clone, Copy, Debug, PartialEq, Eq, Hash)]
 pub enum PtsDts {
     /// A PTS alone.
     PtsOnly(Result<Timestamp, Error>),
@@ -580,6 +822,7 @@ impl PtsDts {
     }
 
     /// The PTS, if it is not refused.
+    #[must_use]
     pub fn pts(&self) -> Option<Timestamp> {
         match self {
             PtsDts::PtsOnly(pts) | PtsDts::Both { pts, .. } => pts.ok(),
@@ -587,6 +830,7 @@ impl PtsDts {
     }
 
     /// The DTS, if there is one and it is not refused.
+    #[must_use]
     pub fn dts(&self) -> Option<Timestamp> {
         match self {
             PtsDts::PtsOnly(_) => None,
@@ -596,11 +840,11 @@ impl PtsDts {
 }
 
 /// Whether an access unit begins with the payload of a PES packet.
-#[derive(Clone, Copy, Debug, PartialEq, Eq)]
+#[derive(Clone, Copy, Debug, PartialEq, Eq, Hash)]
 pub enum DataAlignment {
     /// One does.
     Aligned,
-    /// That is not said.
+    /// Nothing is said of it.
     NotAligned,
 }
 
@@ -614,7 +858,7 @@ impl DataAlignment {
 }
 
 /// The copyright status of a PES packet.
-#[derive(Clone, Copy, Debug, PartialEq, Eq)]
+#[derive(Clone, Copy, Debug, PartialEq, Eq, Hash)]
 pub enum Copyright {
     /// The bit is 0.
     Protected,
@@ -635,7 +879,7 @@ impl Copyright {
 pub type CopyrightStatus = Copyright;
 
 /// Whether the payload of a PES packet is an original.
-#[derive(Clone, Copy, Debug, PartialEq, Eq)]
+#[derive(Clone, Copy, Debug, PartialEq, Eq, Hash)]
 pub enum OriginalOrCopy {
     /// It is an original.
     Original,
@@ -728,6 +972,32 @@ mod tests {
         assert_eq!(mode(0b0101_1101), DsmTrickMode::FreezeFrame { field_id: 3, reserved: 5 });
         assert_eq!(mode(0b1001_1111), DsmTrickMode::SlowReverse { rep_cntrl: 4 });
         assert_eq!(mode(0b1110_0000), DsmTrickMode::Reserved { reserved: 7 });
+    }
+
+    #[test]
+    fn times_wrap() {
+        let time = |value| Timestamp::from_u64(value).unwrap();
+        assert_eq!((time(5).since(time(3)), time(3).since(time(5))), (2, (1 << 33) - 2));
+        assert_eq!((time(0).since(Timestamp::MAX), time((1 << 34) - 1).since(time(0))), (1, (1 << 33) - 1));
+        assert_eq!((time(45_000).as_seconds(), time(45_000).as_duration().as_millis()), (0.5, 500));
+        assert_eq!(
+            (u64::from(time(7)), Timestamp::try_from(7), time(7).to_string()),
+            (7, Ok(time(7)), "7".to_string())
+        );
+    }
+
+    #[test]
+    fn texts_are_one_line() {
+        let header = PesHeader::from_bytes(&[0, 0, 1, 0xE0, 0, 0, 0x80, 0, 0, 7]).unwrap();
+        assert_eq!(format!("{header:#?}"), "PesHeader(Video(0), length unbounded, 4 bytes)");
+        assert_eq!((header.stream_id().to_string(), u8::from(header.stream_id())), ("0xe0".to_string(), 0xE0));
+        let contents = header.contents().parsed().unwrap();
+        assert!(format!("{contents:?}").ends_with("pes_extension: Err(FieldNotPresent), payload: 1 }"));
+        let bare = PesHeader::from_bytes(&[0, 0, 1, 0xBF, 0, 9]).unwrap();
+        assert_eq!(bare.contents().parsed(), Err(Error::FieldNotPresent));
+        assert_eq!(format!("{bare:?}"), "PesHeader(PRIVATE_STREAM2, length 9, 0 bytes)");
+        assert!(StreamId::PROGRAM_STREAM_MAP < header.stream_id() && header.stream_id() < StreamId::ECM_STREAM);
+        assert_eq!(EsRate::try_from(75).unwrap().to_string(), "3750 B/s");
     }
 
     #[test]

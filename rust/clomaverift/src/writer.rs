@@ -3,6 +3,8 @@
 use crate::error::Error;
 use crate::ffi;
 use crate::packet::{ClockRef, Packet};
+use alloc::vec;
+use alloc::vec::Vec;
 
 /// The bytes of a PES header with every field that can be written.
 const LONGEST_HEADER: usize = 9 + 23;
@@ -11,7 +13,7 @@ const LONGEST_HEADER: usize = 9 + 23;
 const CARRIED: usize = 184;
 
 /// The timestamps of a unit that is to be written.
-#[derive(Clone, Copy, Debug, Default, PartialEq, Eq)]
+#[derive(Clone, Copy, Debug, Default, PartialEq, Eq, Hash)]
 pub enum Times {
     /// None.
     #[default]
@@ -27,7 +29,7 @@ pub enum Times {
     },
 }
 
-/// The fields of a unit that is to be written. The library judges them as they are: [`Error::BadField`] exactly for a PID outside 16 to
+/// The fields of a unit that is to be written. The library checks them: [`Error::BadField`] exactly for a PID outside 16 to
 /// 8190, a counter above 15, a stream id below BC hex or of those that carry a bare payload, an unbounded length with an id outside E0
 /// to EF hex, a time or an ESCR base of 2^33 or more, an ESCR extension above 299, an ES rate of 0 or of 2^22 or more, and a copy info
 /// above 127. More fields may be added: a unit is made by [`Unit::new`] and the methods below, or by setting fields of such a unit.
@@ -41,7 +43,7 @@ pub enum Times {
 /// assert_eq!(packets.len(), 6 * 188);
 /// # Ok::<(), clomaverift::Error>(())
 /// ```
-#[derive(Clone, Copy, Debug, PartialEq, Eq)]
+#[derive(Clone, Copy, Debug, PartialEq, Eq, Hash)]
 #[non_exhaustive]
 pub struct Unit {
     /// The PID of the packets.
@@ -70,12 +72,13 @@ pub struct Unit {
     pub trick_mode: Option<u8>,
     /// The additional copy info.
     pub copy_info: Option<u8>,
-    /// The check sum of the PES packet before.
+    /// The checksum of the previous PES packet.
     pub crc: Option<u16>,
 }
 
 impl Unit {
     /// A unit of bounded length with no optional field, all bits 0, and a first counter of 0.
+    #[must_use]
     pub fn new(pid: u16, id: u8) -> Unit {
         Unit {
             pid,
@@ -96,86 +99,106 @@ impl Unit {
     }
 
     /// With this counter on the first packet.
+    #[must_use]
     pub fn counter(self, counter: u8) -> Unit {
         Unit { counter, ..self }
     }
 
     /// With the length in the header, or without.
+    #[must_use]
     pub fn bounded(self, bounded: bool) -> Unit {
         Unit { bounded, ..self }
     }
 
     /// With no length in the header.
+    #[must_use]
     pub fn unbounded(self) -> Unit {
         self.bounded(false)
     }
 
     /// With this priority bit.
+    #[must_use]
     pub fn priority(self, priority: bool) -> Unit {
         Unit { priority, ..self }
     }
 
     /// With this alignment bit.
+    #[must_use]
     pub fn alignment(self, alignment: bool) -> Unit {
         Unit { alignment, ..self }
     }
 
     /// With the alignment bit set.
+    #[must_use]
     pub fn aligned(self) -> Unit {
         self.alignment(true)
     }
 
     /// With this copyright bit.
+    #[must_use]
     pub fn copyright(self, copyright: bool) -> Unit {
         Unit { copyright, ..self }
     }
 
     /// With this original bit.
+    #[must_use]
     pub fn original(self, original: bool) -> Unit {
         Unit { original, ..self }
     }
 
     /// With these timestamps.
+    #[must_use]
     pub fn times(self, times: Times) -> Unit {
         Unit { times, ..self }
     }
 
     /// With a PTS alone.
+    #[must_use]
     pub fn pts(self, pts: u64) -> Unit {
         self.times(Times::Pts(pts))
     }
 
     /// With a PTS and a DTS.
+    #[must_use]
     pub fn pts_dts(self, pts: u64, dts: u64) -> Unit {
         self.times(Times::Both { pts, dts })
     }
 
     /// With an elementary stream clock reference.
+    #[must_use]
     pub fn escr(self, clock: ClockRef) -> Unit {
         Unit { escr: Some((clock.base(), clock.extension())), ..self }
     }
 
     /// With an elementary stream rate.
+    #[must_use]
     pub fn es_rate(self, rate: u32) -> Unit {
         Unit { es_rate: Some(rate), ..self }
     }
 
     /// With a trick mode byte.
+    #[must_use]
     pub fn trick_mode(self, byte: u8) -> Unit {
         Unit { trick_mode: Some(byte), ..self }
     }
 
     /// With additional copy info.
+    #[must_use]
     pub fn copy_info(self, info: u8) -> Unit {
         Unit { copy_info: Some(info), ..self }
     }
 
-    /// With the check sum of the PES packet before.
+    /// With the checksum of the previous PES packet.
+    #[must_use]
     pub fn crc(self, crc: u16) -> Unit {
         Unit { crc: Some(crc), ..self }
     }
 
     /// The unit's packets, in memory of their own.
+    ///
+    /// # Errors
+    ///
+    /// [`Error::BadField`] and [`Error::TooLong`], as [`write()`].
     pub fn packets(&self, payload: &[u8]) -> Result<Vec<u8>, Error> {
         let most = (LONGEST_HEADER + payload.len() + CARRIED - 1) / CARRIED;
         let mut out = vec![0; most * Packet::SIZE];
@@ -206,11 +229,13 @@ impl Numbers {
     }
 }
 
-/// Writes a unit with its payload as packets to the start of `out`, and gives their number, the least that the unit can have. What is
-/// after them stays as it was.
+/// Writes a unit with its payload as packets to the start of `out`, and returns their number, the least that can carry the unit. The bytes
+/// of `out` after them stay as they were.
 ///
-/// The order of refusals, none of which writes anything: [`Error::BadField`], [`Error::TooLong`] for more than 65,536 bytes of payload
-/// or for a bounded length that does not fit its 16 bits, [`Error::NoRoom`].
+/// # Errors
+///
+/// In this order, and without writing anything: [`Error::BadField`], [`Error::TooLong`] for more than 65,536 bytes of payload or for a
+/// bounded length that does not fit its 16 bits, [`Error::NoRoom`].
 ///
 /// ```
 /// use clomaverift::{write, Error, Packet, Unit};
@@ -230,7 +255,7 @@ pub fn write(unit: &Unit, payload: &[u8], out: &mut [u8]) -> Result<usize, Error
 #[cfg(test)]
 mod tests {
     use super::*;
-    use crate::pes::{Copyright, DataAlignment, OriginalOrCopy, PesContents, PesHeader, PesLength};
+    use crate::pes::{Copyright, DataAlignment, OriginalOrCopy, PesHeader, PesLength};
 
     fn full() -> Unit {
         let unit = Unit::new(0x1234, 0xE5).counter(15).aligned().pts_dts(8_589_934_591, 1).es_rate(4_194_303);
@@ -249,10 +274,7 @@ mod tests {
         let header = PesHeader::from_bytes(first.payload().unwrap()).unwrap();
         assert_eq!(header.stream_id().number(), 0xE5);
         assert_eq!(header.pes_packet_length(), PesLength::Bounded((3 + 23 + 256).try_into().unwrap()));
-        let contents = match header.contents() {
-            PesContents::Parsed(contents) => contents.unwrap(),
-            PesContents::Payload(_) => panic!("a bare payload"),
-        };
+        let contents = header.contents().parsed().unwrap();
         assert_eq!(contents.pes_priority(), 1);
         assert_eq!(contents.data_alignment_indicator(), DataAlignment::Aligned);
         assert_eq!(contents.copyright(), Copyright::Undefined);

@@ -1,8 +1,6 @@
 //! All fields by one call are those that the single methods give: in the sample stream, and in packets and headers of random bytes.
 
-use clomaverift::{
-    Error, Packet, PacketFields, PesContents, PesFields, PesHeader, PesParsedContents, PtsDts, Timestamp,
-};
+use clomaverift::{Error, Packet, PacketFields, PesFields, PesHeader, PesParsedContents, PtsDts, Timestamp};
 use std::collections::BTreeSet;
 
 const SAMPLE: &[u8] = include_bytes!(concat!(env!("CARGO_MANIFEST_DIR"), "/../../samples/sample.ts"));
@@ -51,10 +49,7 @@ fn packet_fields(bytes: &[u8]) -> PacketFields<'_> {
 
 /// A header's, where it is accepted.
 fn header_fields(bytes: &[u8]) -> Option<PesFields<'_>> {
-    let contents = match PesHeader::from_bytes(bytes).unwrap().contents() {
-        PesContents::Parsed(contents) => contents.ok()?,
-        PesContents::Payload(_) => return None,
-    };
+    let contents = PesHeader::from_bytes(bytes).unwrap().contents().parsed().ok()?;
     let fields = contents.fields();
     check_contents(&contents, &fields);
     Some(fields)

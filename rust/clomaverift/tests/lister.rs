@@ -1,21 +1,9 @@
 //! The event lister's worked example, by this crate: the input and the output that the program events is held to.
 
-use clomaverift::{Event, EventKind, Machine, Packet, Ran};
+use clomaverift::{Machine, Packet, Ran};
 
 const INPUT: &[u8] = include_bytes!(concat!(env!("CARGO_MANIFEST_DIR"), "/../../crates/lister/stdin"));
 const OUTPUT: &str = include_str!(concat!(env!("CARGO_MANIFEST_DIR"), "/../../crates/lister/stdout"));
-
-fn line(event: Event) -> String {
-    let name = match event.kind {
-        EventKind::StartStream => "start",
-        EventKind::BeginPacket => "begin",
-        EventKind::ContinuePacket => "continue",
-        EventKind::EndPacket => "end",
-        EventKind::ContinuityError => "error",
-        other => panic!("{other:?}"),
-    };
-    format!("{} {name} {} {}", event.index, event.place, event.length)
-}
 
 #[test]
 fn the_worked_example() {
@@ -24,7 +12,7 @@ fn the_worked_example() {
     let packets = (INPUT.len() / Packet::SIZE) as u32;
     assert_eq!(machine.run(INPUT, &mut log), Ok(Ran::new(packets, None)));
     let mut lines = vec!["packet event place length".to_string()];
-    lines.extend(machine.events(&log).map(|event| line(event.unwrap())));
+    lines.extend(machine.events(&log).map(|event| event.unwrap().to_string()));
     lines.push(format!("packets {}", machine.taken()));
     assert_eq!(lines, OUTPUT.lines().collect::<Vec<_>>());
 }

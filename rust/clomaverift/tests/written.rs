@@ -1,8 +1,7 @@
 //! Units of random fields: what is written is read back, from as few packets as can be.
 
 use clomaverift::{
-    ClockRef, Demux, Found, FoundUnit, Packet, PesContents, PesHeader, PesParsedContents, PtsDts, Times, Timestamp,
-    Unit,
+    ClockRef, Demux, Found, FoundUnit, Packet, PesHeader, PesParsedContents, PtsDts, Times, Timestamp, Unit,
 };
 
 const UNITS: u64 = 2_000;
@@ -69,10 +68,7 @@ fn data_bytes(unit: &Unit) -> usize {
 fn read_back(packets: &[u8]) -> Unit {
     let packet = Packet::try_new(&packets[..Packet::SIZE]).unwrap();
     let header = PesHeader::from_bytes(packet.payload().unwrap()).unwrap();
-    let contents = match header.contents() {
-        PesContents::Parsed(contents) => contents.unwrap(),
-        PesContents::Payload(_) => panic!("a bare payload"),
-    };
+    let contents = header.contents().parsed().unwrap();
     let clock = |clock: ClockRef| (clock.base(), clock.extension());
     let bit = |number: u8| contents_bit(&packet, number);
     let mut unit = Unit::new(packet.pid().into(), header.stream_id().number())
