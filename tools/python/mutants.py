@@ -29,6 +29,7 @@ from header import ENTRY, Entry
 from sources import below, crates
 
 QUICK = ["--count", "100000"]  # random answers a module: most often enough, as the corners are always compared
+SHOWN = 160  # characters of a difference that are printed
 LONGEST = 1200  # seconds of the driver after which it counts as hung
 TRIPLE = "x86_64-unknown-linux-gnu"
 WORDS = {"u8": "i8", "u16": "i16", "u32": "i32", "u64": "i64", "usize": "i64"}
@@ -228,7 +229,7 @@ def first_difference(program, words):
         hung = signal.alarm(0) == 0
         if said:
             os.killpg(driver.pid, signal.SIGKILL)
-            return said.strip()
+            return said.strip()[:SHOWN]
     if driver.returncode == 0:
         return None
     return f"the driver does not end within {LONGEST} s" if hung else f"the driver fails with status {driver.returncode}"
