@@ -1,4 +1,5 @@
--- What the definitions of `specs/` come to, in each case. The functions' proofs cite these, and so do callers'.
+-- What the definitions of `specs/` come to, in each case, by the tests and promises that a need is handed. The functions' proofs search the
+-- rulesets at the end, and callers cite them too.
 -- Assumes nothing.
 use mathlib.Core.Path.{_≡_, refl, sym, ap, _∙_}
 use mathlib.Core.Bool.{Bool, true, false, not}
@@ -8,28 +9,34 @@ use native.Mathlib.Omega.{arith}
 use native.Mathlib.Nat.{add-zero, mod-eq-of-lt, div-one, not-suc-le-zero}
 use lib.ListN.{length, getD, take, drop, set, replicate, length-append, length-take, length-drop, length-replicate, drop-of-length-le}
 use lib.ListN.{take-append-drop, replicate-append-replicate}
-use lib.Seq.{take-all, drop-drop, take-at, drop-at, take-append-add, drop-append-add, length-take-le}
+use lib.Seq.{take-all, drop-drop, take-at, drop-at, take-append-add, drop-append-add, drop-append-le, length-take-le}
 use lib.Dec.{leb, ltb}
+use borrow.Author.Needs.{needs}
 use borrow.Author.Tests.{lt-ltb, le-ltb, lt-leb, le-leb, ltb-true, ltb-false, leb-true, leb-false, ne-eqb}
 use Rattle.bits.specs.Answer.{Answer, answer, pick, truth, placedAt, Check}
 use Rattle.bits.specs.Pack.{Part, joined, bytesOf, number}
-use Rattle.bits.proofs.Checks.{Off, none-holds, first-holds}
+use Rattle.bits.proofs.Bools.{both}
+use Rattle.bits.proofs.Checks.{Off, none-holds, first-holds, accepted-by}
 use Rattle.bits.proofs.Packs.{written, length-bytesOf}
 use Rattle.bits.proofs.Parts.{part-rest, placed-none, placed-at, length-placed, placed-append}
-use Rattle.pes.specs.Stream.{readId, parsedId}
-use Rattle.pes.proofs.Laws.{kind-agrees}
-use Rattle.timestamp.specs.Stamp.{stampBytes}
+use Rattle.bits.proofs.Tests.{taken, not-taken}
+use Rattle.pes.specs.declared.StreamId.{StreamId}
+use Rattle.pes.specs.Stream.{givenId, kindOf, readId, parsedId}
+use Rattle.pes.proofs.Laws.{parsed-agrees}
+use Rattle.timestamp.specs.Stamp.{stampTable, stampBytes}
 use Rattle.timestamp.proofs.Theorems.{stamp-length}
-use Rattle.contents.specs.Layout.{escrTable, escrBytes, rateTable, trickTable, copyTable, crcTable}
+use Rattle.contents.specs.Layout.{escrTable, escrBytes, rateTable, esRateBytes, trickTable, trickBytes, copyTable, copyInfoBytes}
+use Rattle.contents.specs.Layout.{crcTable, crcBytes}
 use Rattle.writer.specs.declared.Route.{Route}
 use Rattle.writer.specs.declared.Times.{Times}
 use Rattle.writer.specs.declared.Times.the-variants.{Untimed, Pts, Both}
 use Rattle.writer.specs.declared.Escr.{Escr}
 use Rattle.writer.specs.declared.Rate.{Rate}
 use Rattle.writer.specs.declared.Byte.{Byte}
+use Rattle.writer.specs.declared.Crc.{Crc}
 use Rattle.writer.specs.declared.Unit.{Unit}
 use Rattle.writer.specs.Unit.{Field, absent, holds, rateField, byteField, crcField, timesFlags, escrFlag, fieldFlag, timesBytes}
-use Rattle.writer.specs.Unit.{dataOf, statedLength, countOf}
+use Rattle.writer.specs.Unit.{dataOf, statedLength, countFor, countOf}
 use Rattle.writer.specs.Packets.{headTable, timesImage, escrImage, image, fieldsImage, headerImage}
 use Rattle.writer.specs.Packets.{packetTable, stuffing, carrier, carried, packetsOf, flat, Placed}
 use Rattle.writer.specs.Writer.{allOf, within, timesFit, escrFits, fits, routeTests, unitTests, sizeTests, notWritten}
@@ -42,59 +49,59 @@ last true = refl
 last false = refl
 
 two : (a b : Bool) → pick a (pick b true false) false ≡ true → (a ≡ true) × (b ≡ true)
-two true true e = (refl, refl)
-two true false e = (refl, e)
-two false b e = let z : _≡_ {A = ℕ} 0 1 = ap truth e in absurd (omega arith)
+two a b e = let t = both a (pick b true false) e in (t .0, both b true (t .1) .0)
 
 module _ (r : Route) where
   pub pid-low : r .pid < 16 → false ≡ allOf (routeTests r)
   unfolding routeTests
   pid-low h = simp (lt-leb 16 (r .pid) h)
 
-  pub pid-high : (16 ≤ r .pid) × (8190 < r .pid) → false ≡ allOf (routeTests r)
+  pub pid-high : 16 ≤ r .pid → 8190 < r .pid → false ≡ allOf (routeTests r)
   unfolding routeTests
-  pid-high h = simp (le-leb 16 (r .pid) (h .0), lt-leb (r .pid) 8190 (h .1))
+  pid-high h k = simp (le-leb 16 (r .pid) h, lt-leb (r .pid) 8190 k)
 
-  pub pid-fits : (16 ≤ r .pid) × (r .pid ≤ 8190) → leb (r .counter) 15 ≡ allOf (routeTests r)
+  pub pid-fits : 16 ≤ r .pid → r .pid ≤ 8190 → leb (r .counter) 15 ≡ allOf (routeTests r)
   unfolding routeTests
-  pid-fits h = rw (le-leb 16 (r .pid) (h .0), le-leb (r .pid) 8190 (h .1)) (last (leb (r .counter) 15))
+  pid-fits h k = rw (le-leb 16 (r .pid) h, le-leb (r .pid) 8190 k) (last (leb (r .counter) 15))
 
   -- the other way: what is known of a route that passed
-  pub route-bounds : allOf (routeTests r) ≡ true → (r .pid ≤ 8190) × (r .counter ≤ 15)
-  unfolding routeTests
-  route-bounds e =
-      let t = two (within 16 8190 (r .pid)) (leb (r .counter) 15) e in
-      let p = two (leb 16 (r .pid)) (leb (r .pid) 8190) (go (leb 16 (r .pid)) (leb (r .pid) 8190) (t .0)) in
-      (leb-true (r .pid) 8190 (p .1), leb-true (r .counter) 15 (t .1))
-    where
-      go : (a b : Bool) → pick a b false ≡ true → pick a (pick b true false) false ≡ true
-      go true true e = refl
-      go true false e = e
-      go false b e = e
+  module _ (b : Bool) (e : b ≡ allOf (routeTests r)) (h : not b ≡ false) where
+    pub route-pid : r .pid < 2 ^ 13
+    unfolding routeTests
+    route-pid =
+        let t = two (within 16 8190 (r .pid)) (leb (r .counter) 15) (not-taken b _ e h) in
+        let k : r .pid ≤ 8190 = leb-true (r .pid) 8190 (both (leb 16 (r .pid)) (leb (r .pid) 8190) (t .0) .1) in
+        omega arith
+
+    pub route-counter : r .counter ≤ 15
+    unfolding routeTests
+    route-counter = leb-true (r .counter) 15 (two (within 16 8190 (r .pid)) (leb (r .counter) 15) (not-taken b _ e h) .1)
 
 -- the three tests of the stream id
 abbrev pub idTest : ℕ → Bool → Bool
 idTest n b = allOf (leb 0xBC n ∷ parsedId n ∷ pick b true (within 0xE0 0xEF n) ∷ [])
 
--- what the crate pes answers of an id
-pub parsed-told : (n : ℕ) (vs : List ℕ) (r t : Bool) → n < 256 → answer 0 vs ≡ readId n → r ≡ parsedId (getD vs 0 0) → r ≡ t → parsedId n ≡ t
-parsed-told n vs r t l e f g = sym (kind-agrees n l) ∙ (ap (λ (a : Answer). parsedId (getD (a .values) 0 0)) (sym e) ∙ (sym f ∙ g))
-
 module _ (n : ℕ) (b : Bool) where
   pub id-low : n < 0xBC → false ≡ idTest n b
   id-low h = simp (lt-leb 0xBC n h)
 
-  pub id-bare : 0xBC ≤ n → parsedId n ≡ false → false ≡ idTest n b
-  id-bare h p = simp (le-leb 0xBC n h, p)
+  -- by what the crate pes answers of the id
+  module _ (h : 0xBC ≤ n) (l : n < 256) (s : StreamId) (e : givenId s ≡ readId n) (r : Bool) (f : r ≡ parsedId (kindOf s)) where
+    told : (t : Bool) → r ≡ t → parsedId n ≡ t
+    told t g = sym (parsed-agrees n s l e) ∙ (sym f ∙ g)
 
-  pub id-bounded : 0xBC ≤ n → parsedId n ≡ true → b ≡ true → true ≡ idTest n b
-  id-bounded h p e = simp (le-leb 0xBC n h, p, e)
+    pub id-bare : r ≡ false → false ≡ idTest n b
+    id-bare g = simp (le-leb 0xBC n h, told false g)
 
-  pub id-under : 0xBC ≤ n → parsedId n ≡ true → b ≡ false → n < 0xE0 → false ≡ idTest n b
-  id-under h p e l = simp (le-leb 0xBC n h, p, e, lt-leb 0xE0 n l)
+    module _ (g : r ≡ true) where
+      pub id-bounded : b ≡ true → true ≡ idTest n b
+      id-bounded k = simp (le-leb 0xBC n h, told true g, k)
 
-  pub id-video : 0xBC ≤ n → parsedId n ≡ true → b ≡ false → 0xE0 ≤ n → leb n 0xEF ≡ idTest n b
-  id-video h p e l = rw (le-leb 0xBC n h, p, e, le-leb 0xE0 n l) (last (leb n 0xEF))
+      pub id-under : b ≡ false → n < 0xE0 → false ≡ idTest n b
+      id-under k u = simp (le-leb 0xBC n h, told true g, k, lt-leb 0xE0 n u)
+
+      pub id-video : b ≡ false → 0xE0 ≤ n → leb n 0xEF ≡ idTest n b
+      id-video k u = rw (le-leb 0xBC n h, told true g, k, le-leb 0xE0 n u) (last (leb n 0xEF))
 
 module _ (t : Times) where
   pub times-pts : (p : ℕ) → t ≡ Pts p → ltb p (2 ^ 33) ≡ timesFit t
@@ -114,8 +121,8 @@ module _ (f : Escr) (b x : ℕ) (e : f ≡ Escr.Present b x) where
   escr-extension h = rw (e, lt-ltb b (2 ^ 33) h)
 
 module _ (f : Rate) (v : ℕ) (e : f ≡ Rate.Present v) where
-  pub rate-high : 0 < v → leb v 4194303 ≡ fits 1 (2 ^ 22 - 1) (rateField f)
-  rate-high h = rw (e, le-leb 1 v h)
+  pub rate-high : (v ≡ 0 → ⊥) → leb v 4194303 ≡ fits 1 (2 ^ 22 - 1) (rateField f)
+  rate-high h = rw (e, le-leb 1 v (omega arith))
 
 pub copy-high : (f : Byte) (v : ℕ) → f ≡ Byte.Present v → leb v 127 ≡ fits 0 127 (byteField f)
 copy-high f v e = rw (e, le-leb 0 v (omega arith))
@@ -143,28 +150,31 @@ module _ (u : Unit) where
       (escrFits (u .escr))
       (fits 1 (2 ^ 22 - 1) (rateField (u .rate))) (fits 0 127 (byteField (u .copy)))
 
-  pub unit-id : idTest (u .id) (u .bounded) ≡ false → false ≡ allOf (unitTests u)
-  unit-id i = sym (unit-chain ∙ rw i)
+  -- by what each function answers of its field
+  module _ (i : Bool) (ie : i ≡ idTest (u .id) (u .bounded)) where
+    pub unit-id : not i ≡ true → false ≡ allOf (unitTests u)
+    unit-id h = sym (unit-chain ∙ rw (taken i _ ie h))
 
-  pub unit-times : idTest (u .id) (u .bounded) ≡ true → timesFit (u .times) ≡ false → false ≡ allOf (unitTests u)
-  unit-times i t = sym (unit-chain ∙ rw (i, t))
+    module _ (ih : not i ≡ false) (t : Bool) (te : t ≡ timesFit (u .times)) where
+      pub unit-times : not t ≡ true → false ≡ allOf (unitTests u)
+      unit-times h = sym (unit-chain ∙ rw (not-taken i _ ie ih, taken t _ te h))
 
-  pub unit-escr : idTest (u .id) (u .bounded) ≡ true → timesFit (u .times) ≡ true → escrFits (u .escr) ≡ false → false ≡ allOf (unitTests u)
-  unit-escr i t e = sym (unit-chain ∙ rw (i, t, e))
+      module _ (th : not t ≡ false) (x : Bool) (xe : x ≡ escrFits (u .escr)) where
+        pub unit-escr : not x ≡ true → false ≡ allOf (unitTests u)
+        unit-escr h = sym (unit-chain ∙ rw (not-taken i _ ie ih, not-taken t _ te th, taken x _ xe h))
 
-  pub unit-rate : idTest (u .id) (u .bounded) ≡ true → timesFit (u .times) ≡ true → escrFits (u .escr) ≡ true
-      → fits 1 (2 ^ 22 - 1) (rateField (u .rate)) ≡ false → false ≡ allOf (unitTests u)
-  unit-rate i t e r = sym (unit-chain ∙ rw (i, t, e, r))
+        module _ (xh : not x ≡ false) (r : Bool) (re : r ≡ fits 1 (2 ^ 22 - 1) (rateField (u .rate))) where
+          pub unit-rate : not r ≡ true → false ≡ allOf (unitTests u)
+          unit-rate h = sym (unit-chain ∙ rw (not-taken i _ ie ih, not-taken t _ te th, not-taken x _ xe xh, taken r _ re h))
 
-  pub unit-copy : idTest (u .id) (u .bounded) ≡ true → timesFit (u .times) ≡ true → escrFits (u .escr) ≡ true
-      → fits 1 (2 ^ 22 - 1) (rateField (u .rate)) ≡ true → fits 0 127 (byteField (u .copy)) ≡ allOf (unitTests u)
-  unit-copy i t e r = sym (unit-chain ∙ rw (i, t, e, r))
+          pub unit-copy : (c : Bool) → not r ≡ false → c ≡ fits 0 127 (byteField (u .copy)) → c ≡ allOf (unitTests u)
+          unit-copy c h ce = ce ∙ sym (unit-chain ∙ rw (not-taken i _ ie ih, not-taken t _ te th, not-taken x _ xe xh, not-taken r _ re h))
 
   -- ---- the sizes
 
-  pub length-bounded : (d n : ℕ) → u .bounded ≡ true → d ≡ dataOf u → 3 + d + n ≡ statedLength u n
+  pub length-bounded : (d n : ℕ) → d ≡ dataOf u → u .bounded ≡ true → 3 + d + n ≡ statedLength u n
   unfolding statedLength
-  length-bounded d n b e = ap (λ (x : ℕ). 3 + x + n) e ∙ sym (ap (λ (t : Bool). pick t (3 + dataOf u + n) 0) b)
+  length-bounded d n e b = ap (λ (x : ℕ). 3 + x + n) e ∙ sym (ap (λ (t : Bool). pick t (3 + dataOf u + n) 0) b)
 
   pub length-unbounded : (n : ℕ) → u .bounded ≡ false → 0 ≡ statedLength u n
   unfolding statedLength
@@ -178,33 +188,41 @@ module _ (u : Unit) where
   unfolding sizeTests
   size-length l n h e = rw (le-leb n 65536 h, e) (last (leb (statedLength u n) 65535))
 
-  pub size-bounds : (n : ℕ) → allOf (sizeTests u n) ≡ true → (n ≤ 65536) × (statedLength u n ≤ 65535)
-  unfolding sizeTests
-  size-bounds n e =
-      let t = two (leb n 65536) (leb (statedLength u n) 65535) e in
-      (leb-true n 65536 (t .0), leb-true (statedLength u n) 65535 (t .1))
+  -- the other way
+  module _ (n : ℕ) (b : Bool) (e : b ≡ allOf (sizeTests u n)) (h : not b ≡ false) where
+    pub size-payload : n ≤ 65536
+    unfolding sizeTests
+    size-payload = leb-true n 65536 (two (leb n 65536) (leb (statedLength u n) 65535) (not-taken b _ e h) .0)
+
+    pub size-stated : statedLength u n ≤ 65535
+    unfolding sizeTests
+    size-stated = leb-true (statedLength u n) 65535 (two (leb n 65536) (leb (statedLength u n) 65535) (not-taken b _ e h) .1)
 
 -- ---- bytes written one by one
 
-pub one-byte : (n m : ℕ) → n < 256 → n ≡ m → n ∷ [] ≡ bytesOf 1 m
-one-byte n m h e = written (n ∷ []) m (h, tt) (omega arith)
+pub trick-written : (v : ℕ) → v < 256 → v ∷ [] ≡ trickBytes v
+trick-written v h = written (v ∷ []) _ (omega arith) (omega arith)
 
-pub two-bytes : (n m : ℕ) → n < 2 ^ 16 → n ≡ m → (n / 256) ∷ (n % 256) ∷ [] ≡ bytesOf 2 m
-two-bytes n m h e = written ((n / 256) ∷ (n % 256) ∷ []) m (omega arith) (omega arith)
+pub copy-written : (v : ℕ) → (128 + v % 128) ∷ [] ≡ copyInfoBytes v
+copy-written v = written ((128 + v % 128) ∷ []) _ (omega arith) (omega arith)
 
-module _ (n m : ℕ) (e : n ≡ m) where
-  pub three-bytes : (n / 65536 % 256) ∷ (n / 256 % 256) ∷ (n % 256) ∷ [] ≡ bytesOf 3 m
+pub crc-written : (v : ℕ) → v < 2 ^ 16 → (v / 256) ∷ (v % 256) ∷ [] ≡ crcBytes v
+crc-written v h = written ((v / 256) ∷ (v % 256) ∷ []) _ (omega arith) (omega arith)
+
+module _ (n : ℕ) where
+  pub rate-written : (v : ℕ) → n ≡ joined (rateTable v) → (n / 65536 % 256) ∷ (n / 256 % 256) ∷ (n % 256) ∷ [] ≡ esRateBytes v
   unfolding bytesOf
-  three-bytes = rw (← e, div-one)
+  rate-written v e = rw (← e, div-one)
 
-  pub five-bytes : (n / 4294967296 % 256) ∷ (n / 16777216 % 256) ∷ (n / 65536 % 256) ∷ (n / 256 % 256) ∷ (n % 256) ∷ [] ≡ bytesOf 5 m
-  unfolding bytesOf
-  five-bytes = rw (← e, div-one)
+  pub stamp-written : (p v : ℕ) → n ≡ joined (stampTable p v)
+      → (n / 4294967296 % 256) ∷ (n / 16777216 % 256) ∷ (n / 65536 % 256) ∷ (n / 256 % 256) ∷ (n % 256) ∷ [] ≡ stampBytes p v
+  unfolding bytesOf stampBytes
+  stamp-written p v e = rw (← e, div-one)
 
-  pub six-bytes : (n / 1099511627776 % 256) ∷ (n / 4294967296 % 256) ∷ (n / 16777216 % 256) ∷ (n / 65536 % 256) ∷ (n / 256 % 256) ∷
-      (n % 256) ∷ [] ≡ bytesOf 6 m
+  pub escr-written : (b x : ℕ) → n ≡ joined (escrTable b x)
+      → (n / 1099511627776 % 256) ∷ (n / 4294967296 % 256) ∷ (n / 16777216 % 256) ∷ (n / 65536 % 256) ∷ (n / 256 % 256) ∷ (n % 256) ∷ [] ≡ escrBytes b x
   unfolding bytesOf
-  six-bytes = rw (← e, div-one)
+  escr-written b x e = rw (← e, div-one)
 
 -- the nine bytes that every header has: their number first, over variables
 
@@ -221,11 +239,11 @@ pub head-written : (u : Unit) (n l p a c o t e r k y z d : ℕ) → u .id < 256 
     → (t ≡ timesFlags (u .times)) × (t ≤ 3) → (e ≡ escrFlag (u .escr)) × (e ≤ 1) → (r ≡ fieldFlag (rateField (u .rate))) × (r ≤ 1)
     → (k ≡ fieldFlag (byteField (u .trick))) × (k ≤ 1) → (y ≡ fieldFlag (byteField (u .copy))) × (y ≤ 1)
     → (z ≡ fieldFlag (crcField (u .crc))) × (z ≤ 1)
-    → (d ≡ dataOf u) × (d ≤ 23)
+    → d ≡ dataOf u → d ≤ 23
     → 0 ∷ 0 ∷ 1 ∷ u .id ∷ (l / 256) ∷ (l % 256) ∷ (128 + 8 * p + 4 * a + 2 * c + o) ∷ (64 * t + 32 * e + 16 * r + 8 * k + 4 * y + 2 * z) ∷
     d ∷ []
     ≡ bytesOf 9 (joined (headTable u n))
-head-written u n l p a c o t e r k y z d id le lh ph ah ch oh th eh rh kh yh zh dh =
+head-written u n l p a c o t e r k y z d id le lh ph ah ch oh th eh rh kh yh zh de dh =
     let im : u .id % 2 ^ 8 ≡ u .id = mod-eq-of-lt id in
     let lm : statedLength u n % 2 ^ 16 ≡ l / 256 * 256 + l % 256 = omega arith in
     let pm : truth (u .priority) % 2 ^ 1 ≡ p = omega arith in
@@ -288,15 +306,36 @@ module _ (d : List ℕ) (p : ℕ) where
   escr-there f b x xs after e q w = placed-bytes d p 6 (escrImage f) xs after (rw (e, q))
       (rw q (length-bytesOf 6 (joined (escrTable b x)))) w
 
-  module _ (k : ℕ) (t : ℕ → List Part) (f : Field) where
-    pub field-none : f ≡ absent → Placed d p (image k t f) k p d
+  module _ (k : ℕ) (t : ℕ → List Part) where
+    field-none : (f : Field) → f ≡ absent → Placed d p (image k t f) k p d
     unfolding image
-    field-none e = placed-nothing d p k (image k t f) (rw e)
+    field-none f e = placed-nothing d p k (image k t f) (rw e)
 
-    pub field-there : (v : ℕ) (xs after : List ℕ) → f ≡ holds v → xs ≡ bytesOf k (joined (t v)) → after ≡ placedAt d p xs
+    field-there : (f : Field) (v : ℕ) (xs after : List ℕ) → f ≡ holds v → xs ≡ bytesOf k (joined (t v)) → after ≡ placedAt d p xs
         → Placed d p (image k t f) k (p + k) after
     unfolding image
-    field-there v xs after e q w = placed-bytes d p k (image k t f) xs after (rw (e, q)) (rw q (length-bytesOf k (joined (t v)))) w
+    field-there f v xs after e q w = placed-bytes d p k (image k t f) xs after (rw (e, q)) (rw q (length-bytesOf k (joined (t v)))) w
+
+    pub byte-none : (f : Byte) → f ≡ Byte.Absent → Placed d p (image k t (byteField f)) k p d
+    byte-none f e = field-none (byteField f) (rw e)
+
+    pub byte-there : (f : Byte) (v : ℕ) (xs after : List ℕ) → f ≡ Byte.Present v → xs ≡ bytesOf k (joined (t v)) → after ≡ placedAt d p xs
+        → Placed d p (image k t (byteField f)) k (p + k) after
+    byte-there f v xs after e = field-there (byteField f) v xs after (rw e)
+
+  pub rate-none : (f : Rate) → f ≡ Rate.Absent → Placed d p (image 3 rateTable (rateField f)) 3 p d
+  rate-none f e = field-none 3 rateTable (rateField f) (rw e)
+
+  pub rate-there : (f : Rate) (v : ℕ) (xs after : List ℕ) → f ≡ Rate.Present v → xs ≡ esRateBytes v → after ≡ placedAt d p xs
+      → Placed d p (image 3 rateTable (rateField f)) 3 (p + 3) after
+  rate-there f v xs after e = field-there 3 rateTable (rateField f) v xs after (rw e)
+
+  pub crc-none : (f : Crc) → f ≡ Crc.Absent → Placed d p (image 2 crcTable (crcField f)) 2 p d
+  crc-none f e = field-none 2 crcTable (crcField f) (rw e)
+
+  pub crc-there : (f : Crc) (v : ℕ) (xs after : List ℕ) → f ≡ Crc.Present v → xs ≡ crcBytes v → after ≡ placedAt d p xs
+      → Placed d p (image 2 crcTable (crcField f)) 2 (p + 2) after
+  crc-there f v xs after e = field-there 2 crcTable (crcField f) v xs after (rw e)
 
 -- one after another
 then : (a : List ℕ) (p : ℕ) (s : List ℕ) (m q : ℕ) (b t : List ℕ) (n r : ℕ) (c : List ℕ) → p + (m + n) ≤ length a
@@ -429,35 +468,51 @@ stuffing-length r h = go (ltb r 184) (ltb r 183) refl refl
 abbrev pub four-set : List ℕ → ℕ → ℕ → ℕ → List ℕ
 four-set p b1 b2 b3 = set (set (set (set p 0 71) 1 b1) 2 b2) 3 b3
 
+-- bytes placed from their end on
+placed-split : (d x : List ℕ) (k : ℕ) → k ≤ length x → length x ≤ length d → placedAt (placedAt d k (drop k x)) 0 (take k x) ≡ placedAt d 0 x
+placed-split d x k h l =
+    let a = take k d in
+    let b = drop k d in
+    let m : length (drop k x) ≡ length x - k = length-drop k x in
+    let n : k + (length x - k) ≡ length x = omega arith in
+    let la : length a ≡ k = length-take-le k d (omega arith) in
+    let lk : length (take k x) ≡ k = length-take-le k x h in
+    let t = drop k x ++ drop (length x - k) b in
+    let e : placedAt d k (drop k x) ≡ a ++ t
+    = ap (λ (y : List ℕ). placedAt y k (drop k x)) (sym (take-append-drop k d))
+    ∙ (placed-at a b k (drop k x) la (omega (arith, length-drop k d)) ∙ rw m) in
+    ap (λ (y : List ℕ). placedAt y 0 (take k x)) e
+    ∙ (placed-at [] (a ++ t) 0 (take k x) refl (omega (arith, length-append a t))
+    ∙ (rw (lk, drop-at a t k la, drop-drop (length x - k) k d, n, ← append-assoc (take k x) (drop k x) (drop (length x) d), take-append-drop k x)
+    (sym (placed-at [] d 0 x refl l))))
+
 module _ (start id c : ℕ) where
   abbrev pub four : ℕ → List ℕ
   four r = bytesOf 4 (joined (packetTable start id (truth (ltb r 184)) c))
 
   module _ (r : ℕ) (p : List ℕ) (ff : p ≡ replicate 188 255) where
-    pub blank-full : (start ≤ 1) × (id < 2 ^ 13) × (c ≤ 15) × (r ≡ 184)
-        → four-set p (start * 64 + id / 256) (id % 256) (16 + c) ≡ four r ++ (stuffing r ++ replicate r 255)
-    unfolding stuffing
-    blank-full h = rw (ff, h .3) (ap (λ (t : List ℕ). t ++ replicate 184 255)
-        (four-written start id 0 c (h .0) (h .1) (omega arith) (h .2)))
+    module _ (hs : start ≤ 1) (hi : id < 2 ^ 13) (hc : c ≤ 15) where
+      pub blank-full : r ≡ 184 → four-set p (start * 64 + id / 256) (id % 256) (16 + c) ≡ four r ++ (stuffing r ++ replicate r 255)
+      unfolding stuffing
+      blank-full h = rw (ff, h) (ap (λ (t : List ℕ). t ++ replicate 184 255) (four-written start id 0 c hs hi (omega arith) hc))
 
-    pub blank-zero : (start ≤ 1) × (id < 2 ^ 13) × (c ≤ 15) × (r ≡ 183)
-        → set (set (four-set p (start * 64 + id / 256) (id % 256) (16 + c)) 3 (48 + c)) 4 (183 - r)
-        ≡ four r ++ (stuffing r ++ replicate r 255)
-    unfolding stuffing
-    blank-zero h = rw (ff, h .3) (ap (λ (t : List ℕ). t ++ (0 ∷ replicate 183 255))
-        (four-written start id 1 c (h .0) (h .1) (omega arith) (h .2)))
+      pub blank-zero : r ≡ 183
+          → set (set (four-set p (start * 64 + id / 256) (id % 256) (16 + c)) 3 (48 + c)) 4 (183 - r)
+          ≡ four r ++ (stuffing r ++ replicate r 255)
+      unfolding stuffing
+      blank-zero h = rw (ff, h) (ap (λ (t : List ℕ). t ++ (0 ∷ replicate 183 255)) (four-written start id 1 c hs hi (omega arith) hc))
 
-    pub blank-short : (start ≤ 1) × (id < 2 ^ 13) × (c ≤ 15) × (r < 183)
-        → set (set (set (four-set p (start * 64 + id / 256) (id % 256) (16 + c)) 3 (48 + c)) 4 (183 - r)) 5 0
-        ≡ four r ++ (stuffing r ++ replicate r 255)
-    unfolding stuffing
-    blank-short h =
-        let n : 182 - r + r ≡ 182 = omega arith in
-        let f = four-written start id 1 c (h .0) (h .1) (omega arith) (h .2) in
-        rw (ff, lt-ltb r 184 (omega arith), lt-ltb r 183 (h .3), ← f, replicate-append-replicate {A = ℕ} (182 - r) r 255, n)
+      pub blank-short : r ≤ 184 → (r ≡ 184 → ⊥) → (r ≡ 183 → ⊥)
+          → set (set (set (four-set p (start * 64 + id / 256) (id % 256) (16 + c)) 3 (48 + c)) 4 (183 - r)) 5 0
+          ≡ four r ++ (stuffing r ++ replicate r 255)
+      unfolding stuffing
+      blank-short h k l =
+          let n : 182 - r + r ≡ 182 = omega arith in
+          let f = four-written start id 1 c hs hi (omega arith) hc in
+          rw (ff, lt-ltb r 184 (omega arith), lt-ltb r 183 (omega arith), ← f, replicate-append-replicate {A = ℕ} (182 - r) r 255, n)
 
   -- the payload over the last bytes of FF
-  pub packet-made : (h b x a₁ a₂ : List ℕ) → length h + length b ≤ 184
+  packet-made : (h b x a₁ a₂ : List ℕ) → length h + length b ≤ 184
       → x ≡ four (length h + length b) ++ (stuffing (length h + length b) ++ replicate (length h + length b) 255)
       → a₁ ≡ placedAt x (188 - (length h + length b)) h → a₂ ≡ placedAt a₁ (188 - length b) b → a₂ ≡ carrier start id c (h ++ b)
   unfolding carrier
@@ -495,6 +550,17 @@ module _ (start id c : ℕ) where
         length-append (four (length xs)) (stuffing (length xs) ++ xs),
       )
 
+  -- out of the image into the output: what follows the first four bytes, then these
+  pub packet-put : (out h b x a₁ a₂ o₁ o₂ : List ℕ) → length h + length b ≤ 184 → 188 ≤ length out
+      → x ≡ four (length h + length b) ++ (stuffing (length h + length b) ++ replicate (length h + length b) 255)
+      → a₁ ≡ placedAt x (188 - (length h + length b)) h → a₂ ≡ placedAt a₁ (188 - length b) b
+      → o₁ ≡ placedAt out 4 (take 184 (drop 4 a₂)) → o₂ ≡ placedAt o₁ 0 (take 4 a₂) → o₂ ≡ placedAt out 0 (carrier start id c (h ++ b))
+  packet-put out h b x a₁ a₂ o₁ o₂ k l e w₁ w₂ v₁ v₂ =
+      let m = packet-made h b x a₁ a₂ k e w₁ w₂ in
+      let n : length a₂ ≡ 188 = ap length m ∙ carrier-length (h ++ b) (omega (arith, length-append h b)) in
+      let t : take 184 (drop 4 a₂) ≡ drop 4 a₂ = take-all 184 (drop 4 a₂) (simp length-drop (omega arith)) in
+      v₂ ∙ (rw (v₁, t) (placed-split out a₂ 4 (omega arith) (omega arith) ∙ ap (placedAt out 0) m))
+
 -- ---- packets one after another
 
 module _ (n m : ℕ) (xs : List ℕ) (e : m ≡ min n (length xs)) where
@@ -522,37 +588,38 @@ unfolding carried
 carried-one zero start id c xs h = absurd (not-suc-le-zero h)
 carried-one (suc k) start id c xs h = let e : suc k - 1 ≡ k = omega arith in rw e
 
+-- a part of the output with a packet at its front, put back into it
+pub part-placed : (out x y : List ℕ) (p m : ℕ) → p + m ≤ length out → length x ≤ m → y ≡ placedAt (take m (drop p out)) 0 x
+    → take p out ++ (y ++ drop m (drop p out)) ≡ placedAt out p x
+part-placed out x y p m h l e =
+    let b = drop p out in
+    let lb : length b ≡ length out - p = length-drop p out in
+    let lm : length (take m b) ≡ m = length-take-le m b (omega arith) in
+    let la : length (take p out) ≡ p = length-take-le p out (omega arith) in
+    let d : drop (length x) (take m b) ++ drop m b ≡ drop (length x) b
+    = sym (drop-append-le (length x) (take m b) (drop m b) (omega arith)) ∙ ap (drop (length x)) (take-append-drop m b) in
+    rw (e, placed-at [] (take m b) 0 x refl (omega arith), append-assoc x (drop (length x) (take m b)) (drop m b), d)
+    (sym (ap (λ (z : List ℕ). placedAt z p x) (sym (take-append-drop p out)) ∙ placed-at (take p out) b p x la (omega arith)))
+
 -- what the output comes to, with the bytes before a place written and so many packets left
 unfoldable pub rest : ℕ → List ℕ → ℕ → ℕ → ℕ → ℕ → List ℕ → List ℕ
 rest id body left o p c out = take p out ++ (flat (carried left 0 id c (drop o body)) ++ drop (188 * left) (drop p out))
 
 module _ (id : ℕ) (body : List ℕ) where
-  pub rest-first : (count c : ℕ) (out : List ℕ) → rest id body count 0 0 c out ≡ flat (carried count 0 id c body) ++ drop (188 * count) out
-  unfolding rest
-  rest-first count c out = refl
+  pub rest-none : (count c : ℕ) (out : List ℕ) → count ≡ 0 → out ≡ flat (carried count 0 id c body) ++ drop (188 * count) out
+  unfolding carried flat
+  rest-none count c out e = rw e
 
-  pub rest-last : (left o p c : ℕ) (out : List ℕ) → left ≡ 0 → rest id body left o p c out ≡ out
-  unfolding rest carried flat
-  rest-last left o p c out e = rw e (take-append-drop p out)
-
-  pub rest-turn : (left o p c end : ℕ) (out after : List ℕ) → 0 < left → o ≤ length body → p + 188 * left ≤ length out
-      → end ≡ o + min 184 (length body - o)
-      → after ≡ placedAt out p (carrier 0 id c (take (end - o) (drop o body)))
-      → (length after ≡ length out) × (rest id body left o p c out ≡ rest id body (left - 1) end (p + 188) ((c + 1) % 16) after)
+  rest-turn : (left o p c : ℕ) (out after : List ℕ) → 0 < left → p + 188 * left ≤ length out
+      → after ≡ placedAt out p (carrier 0 id c (take 184 (drop o body)))
+      → (length after ≡ length out) × (rest id body left o p c out ≡ rest id body (left - 1) (o + 184) (p + 188) ((c + 1) % 16) after)
   unfolding rest flat
-  rest-turn left o p c end out after h ho hp he w =
+  rest-turn left o p c out after h hp w =
       let ys = drop o body in
-      let x = carrier 0 id c (take (end - o) ys) in
+      let x = carrier 0 id c (take 184 ys) in
       let b = drop p out in
-      let ly : length ys ≡ length body - o = length-drop o body in
-      let m : end - o ≡ min 184 (length ys) = omega arith in
-      let tx : take (end - o) ys ≡ take 184 ys = take-least 184 (end - o) ys m in
-      let dx : drop end body ≡ drop 184 ys =
-      (let s : end ≡ o + (end - o) = omega arith in ap (λ (k : ℕ). drop k body) s
-      ∙ (sym (drop-drop (end - o) o body) ∙ drop-least 184 (end - o) ys m)) in
-      let lt : length (take 184 ys) ≤ 184 = simp length-take (omega arith) in
-      let q : x ≡ carrier 0 id c (take 184 ys) = ap (carrier 0 id c) tx in
-      let lx : length x ≡ 188 = ap length q ∙ carrier-length 0 id c (take 184 ys) lt in
+      let dx : drop (o + 184) body ≡ drop 184 ys = sym (drop-drop 184 o body) in
+      let lx : length x ≡ 188 = carrier-length 0 id c (take 184 ys) (simp length-take (omega arith)) in
       let la : length (take p out) ≡ p = length-take-le p out (omega arith) in
       let lb : length b ≡ length out - p = length-drop p out in
       let f : after ≡ (take p out ++ x) ++ drop 188 b
@@ -561,33 +628,84 @@ module _ (id : ℕ) (body : List ℕ) where
       let lf : length (take p out ++ x) ≡ p + 188 = omega (arith, length-append (take p out) x) in
       let ta : take (p + 188) after ≡ take p out ++ x = ap (take (p + 188)) f ∙ take-at (take p out ++ x) (drop 188 b) (p + 188) lf in
       let da : drop (p + 188) after ≡ drop 188 b = ap (drop (p + 188)) f ∙ drop-at (take p out ++ x) (drop 188 b) (p + 188) lf in
-      let r = flat (carried (left - 1) 0 id ((c + 1) % 16) (drop 184 ys)) in
       let n : 188 + 188 * (left - 1) ≡ 188 * left = omega arith in (
         ap length w ∙ length-placed out p x,
-        rw (carried-one left 0 id c ys h, ← q, ta, da, dx, drop-drop (188 * (left - 1)) 188 b, n) (simp append-assoc),
+        rw (carried-one left 0 id c ys h, ta, da, dx, drop-drop (188 * (left - 1)) 188 b, n) (simp append-assoc),
       )
+
+  -- by what `put_packet` leaves in its part of the output: that of a full packet ..
+  module _ (left o p c : ℕ) (out y : List ℕ) (h : 1 < left) (k : p + 188 * left ≤ length out)
+      (w : y ≡ placedAt (take (p + 188 - p) (drop p out)) 0 (carrier 0 id c (take (o + 184 - o) (drop o body)))) where
+    abbrev again : List ℕ
+    again = take p out ++ (y ++ drop (p + 188 - p) (drop p out))
+
+    turned : (length again ≡ length out) × (rest id body left o p c out ≡ rest id body (left - 1) (o + 184) (p + 188) ((c + 1) % 16) again)
+    turned =
+        let a : p + 188 - p ≡ 188 = omega arith in
+        let b : o + 184 - o ≡ 184 = omega arith in
+        let t = take 184 (drop o body) in
+        let l : length t ≤ 184 = simp length-take (omega arith) in
+        let f : y ≡ placedAt (take 188 (drop p out)) 0 (carrier 0 id c t) = rw (a, b) at w in
+        let e : again ≡ placedAt out p (carrier 0 id c t)
+        = rw a (part-placed out (carrier 0 id c t) y p 188 (omega arith) (omega (arith, carrier-length 0 id c t l)) f) in
+        rest-turn left o p c out again (omega arith) k e
+
+    pub again-room : p + 188 + 188 * (left - 1) ≤ length again
+    again-room = omega (arith, turned .0)
+
+    pub again-length : (n : ℕ) → length out ≡ n → length again ≡ n
+    again-length n e = turned .0 ∙ e
+
+    pub again-rest : (x : List ℕ) → x ≡ rest id body left o p c out → x ≡ rest id body (left - 1) (o + 184) (p + 188) ((c + 1) % 16) again
+    again-rest x e = e ∙ turned .1
+
+  -- .. and that of the last
+  pub rest-end : (count c₀ left o p c : ℕ) (out₀ out y : List ℕ) → rest id body count 0 0 c₀ out₀ ≡ rest id body left o p c out
+      → 1 ≤ left → left ≤ 1 → length body ≤ o + 184 * left → p + 188 * left ≤ length out
+      → y ≡ placedAt (take (length out - p) (drop p out)) 0 (carrier 0 id c (take (length body - o) (drop o body)))
+      → take p out ++ (y ++ drop (length out - p) (drop p out)) ≡ flat (carried count 0 id c₀ body) ++ drop (188 * count) out₀
+  unfolding rest carried flat
+  rest-end count c₀ left o p c out₀ out y inv h k l m w =
+      let one : left ≡ 1 = omega arith in
+      let ys = drop o body in
+      let ly : length ys ≤ 184 = simp length-drop (omega arith) in
+      let t : take (length body - o) ys ≡ take 184 ys = part-rest o body ∙ sym (take-all 184 ys ly) in
+      let x = carrier 0 id c (take 184 ys) in
+      let lt : length (take 184 ys) ≤ 184 = simp length-take (omega arith) in
+      let after = take p out ++ (y ++ drop (length out - p) (drop p out)) in
+      let f : y ≡ placedAt (take (length out - p) (drop p out)) 0 x = rw t at w in
+      let e : after ≡ placedAt out p x = part-placed out x y p (length out - p) (omega arith) (omega (arith, carrier-length 0 id c (take 184 ys) lt)) f in
+      sym (inv ∙ (rest-turn left o p c out after (omega arith) m e .1 ∙ rw one (take-append-drop (p + 188) after)))
 
 -- ---- the first packet, and then the rest
 
-pub count-some : (u : Unit) (n : ℕ) → 1 ≤ countOf u n
+count-is : (u : Unit) (d n k : ℕ) → d ≡ dataOf u → k ≡ countFor (9 + d + n) → k ≡ countOf u n
 unfolding countOf
-count-some u n = omega arith
+count-is u d n k e f = f ∙ ap (λ (x : ℕ). countFor (9 + x + n)) e
+
+-- how many are left for what is left of the payload
+pub count-left : (payload : List ℕ) (d first k : ℕ) → d ≤ 23 → k ≡ countFor (9 + d + length payload) → first ≡ min (184 - (9 + d)) (length payload)
+    → k - 1 ≡ countFor (length (take (length payload - first) (drop first payload)))
+count-left payload d first k h e f = rw (part-rest first payload, length-drop first payload) (omega arith)
+
+pub room-left : (k : ℕ) (out x after : List ℕ) → 188 * k ≤ length out → after ≡ placedAt out 0 x → 188 * (k - 1) ≤ length (take (length after - 188) (drop 188 after))
+room-left k out x after h w = rw (part-rest 188 after, length-drop 188 after) (omega (arith, ap length w, length-placed out 0 x))
 
 pub packets-made : (r : Route) (u : Unit) (payload out : List ℕ) (d first count : ℕ) (ff head after tail : List ℕ)
-    → length ff ≡ 32 → head ≡ placedAt ff 0 (headerImage u (length payload)) → (d ≡ dataOf u) × (d ≤ 23)
+    → length ff ≡ 32 → head ≡ placedAt ff 0 (headerImage u (length payload)) → d ≡ dataOf u → d ≤ 23
     → first ≡ min (184 - (9 + d)) (length payload)
-    → after ≡ placedAt out 0 (carrier 1 (r .pid) (r .counter) (take (9 + d) head ++ take first payload))
+    → after ≡ placedAt out 0 (carrier 1 (r .pid) (r .counter) (take (9 + d - 0) head ++ take (first - 0) payload))
     → tail ≡ flat (carried (count - 1) 0 (r .pid) ((r .counter + 1) % 16) (take (length payload - first) (drop first payload))) ++ drop
     (188 * (count - 1)) (take (length after - 188) (drop 188 after))
-    → count ≡ countOf u (length payload) → 188 * count ≤ length out
+    → count ≡ countFor (9 + d + length payload) → 188 * count ≤ length out
     → take 188 after ++ (tail ++ drop (length after - 188) (drop 188 after)) ≡ flat (packetsOf r u payload) ++ drop (188 * count) out
 unfolding packetsOf flat
-packets-made r u payload out d first count ff head after tail lff eh ed ef ea et ec ho =
+packets-made r u payload out d first count ff head after tail lff eh ed dh ef ea et ek ho =
     let n = length payload in
     let x = carrier 1 (r .pid) (r .counter) (take (9 + d) head ++ take first payload) in
     let h = headerImage u n in
-    let some = count-some u n in
-    let lh : length h ≡ 9 + d = header-length u n ∙ ap (λ (k : ℕ). 9 + k) (sym (ed .0)) in
+    let ec : count ≡ countOf u n = count-is u d n count ed ek in
+    let lh : length h ≡ 9 + d = header-length u n ∙ ap (λ (k : ℕ). 9 + k) (sym ed) in
     let hh : take (9 + d) head ≡ h = ap (take (9 + d)) (eh ∙ placed-at [] ff 0 h refl (omega arith))
     ∙ take-at h (drop (length h) ff) (9 + d) lh in
     let w : 184 ≡ length h + (184 - (9 + d)) = omega arith in
@@ -600,7 +718,9 @@ packets-made r u payload out d first count ff head after tail lff eh ed ef ea et
     let lt : length (take 184 (h ++ payload)) ≤ 184 = simp length-take (omega arith) in
     let q : x ≡ carrier 1 (r .pid) (r .counter) (take 184 (h ++ payload)) = rw (hh, tk) in
     let lx : length x ≡ 188 = ap length q ∙ carrier-length 1 (r .pid) (r .counter) (take 184 (h ++ payload)) lt in
-    let fa : after ≡ x ++ drop 188 out = ea ∙ (placed-at [] out 0 x refl (omega arith) ∙ rw lx) in
+    let z₁ : 9 + d - 0 ≡ 9 + d = omega arith in
+    let z₂ : first - 0 ≡ first = omega arith in
+    let fa : after ≡ x ++ drop 188 out = (rw (z₁, z₂) at ea) ∙ (placed-at [] out 0 x refl (omega arith) ∙ rw lx) in
     let ta : take 188 after ≡ x = ap (take 188) fa ∙ take-at x (drop 188 out) 188 lx in
     let da : drop 188 after ≡ drop 188 out = ap (drop 188) fa ∙ drop-at x (drop 188 out) 188 lx in
     let ld : length (drop 188 after) ≡ length after - 188 = length-drop 188 after in
@@ -624,38 +744,77 @@ module _ (r : Route) (u : Unit) (payload out : List ℕ) where
   not-written = notWritten r u n (length out)
 
   -- a refusal, and the output as it was lent
-  refusal : (k : ℕ) → 0 < k → answer k [] ≡ writeOf r u payload out
-      → (answer k [] ≡ writeOf r u payload out) × (out ≡ outputOf r u payload out)
+  pub lent : (k : ℕ) → 0 < k → answer k [] ≡ writeOf r u payload out → (answer k [] ≡ writeOf r u payload out) × (out ≡ outputOf r u payload out)
   unfolding outputOf
-  refusal k h e = (e, rw (← e, ne-eqb k 0 (omega arith)))
+  lent k h e = (e, rw (← e, ne-eqb k 0 (omega arith)))
 
-  pub write-route : allOf (routeTests r) ≡ false → (answer 17 [] ≡ writeOf r u payload out) × (out ≡ outputOf r u payload out)
-  unfolding writeOf
-  write-route a = refusal 17 (omega arith) (first-holds not-written 0 tt (ap not a) _)
+  -- the count, and the packets with what was past them
+  pub left : (k : ℕ) (after : List ℕ) → answer 0 (k ∷ []) ≡ writeOf r u payload out → after ≡ flat (packetsOf r u payload) ++ drop (188 * k) out
+      → (answer 0 (k ∷ []) ≡ writeOf r u payload out) × (after ≡ outputOf r u payload out)
+  unfolding writeOf outputOf
+  left k after e w =
+      let f = accepted-by not-written _ (omega arith) (ap (λ (a : Answer). a .number) (sym e)) _ in
+      let g : k ≡ countOf u n = ap (λ (a : Answer). getD (a .values) 0 0) (e ∙ f) in
+      (e, w ∙ rw (f, g))
 
-  module _ (a : allOf (routeTests r) ≡ true) where
-    pub write-unit : allOf (unitTests u) ≡ false → (answer 17 [] ≡ writeOf r u payload out) × (out ≡ outputOf r u payload out)
+  -- by what each function answers of its list
+  module _ (a : Bool) (ae : a ≡ allOf (routeTests r)) where
+    pub write-route : not a ≡ true → answer 17 [] ≡ writeOf r u payload out
     unfolding writeOf
-    write-unit b = refusal 17 (omega arith) (first-holds not-written 1 (ap not a, tt) (ap not b) _)
+    write-route h = first-holds not-written 0 tt (ap not (taken a _ ae h)) _
 
-    module _ (b : allOf (unitTests u) ≡ true) where
-      pub write-long : allOf (sizeTests u n) ≡ false → (answer 18 [] ≡ writeOf r u payload out) × (out ≡ outputOf r u payload out)
+    module _ (ah : not a ≡ false) (b : Bool) (be : b ≡ allOf (unitTests u)) where
+      route-passed : not (allOf (routeTests r)) ≡ false
+      route-passed = ap not (not-taken a _ ae ah)
+
+      pub write-unit : not b ≡ true → answer 17 [] ≡ writeOf r u payload out
       unfolding writeOf
-      write-long c = refusal 18 (omega arith) (first-holds not-written 2 (ap not a, (ap not b, tt)) (ap not c) _)
+      write-unit h = first-holds not-written 1 (route-passed, tt) (ap not (taken b _ be h)) _
 
-      module _ (c : allOf (sizeTests u n) ≡ true) where
-        pub write-full : (k : ℕ) → k ≡ countOf u n → length out / 188 < k
-            → (answer 19 [] ≡ writeOf r u payload out) × (out ≡ outputOf r u payload out)
+      module _ (bh : not b ≡ false) (c : Bool) (ce : c ≡ allOf (sizeTests u n)) where
+        unit-passed : not (allOf (unitTests u)) ≡ false
+        unit-passed = ap not (not-taken b _ be bh)
+
+        pub write-long : not c ≡ true → answer 18 [] ≡ writeOf r u payload out
         unfolding writeOf
-        write-full k e h =
-            refusal 19 (omega arith)
-            (first-holds not-written 3 (ap not a, (ap not b, (ap not c, tt))) (lt-ltb (length out / 188) (countOf u n) (omega arith)) _)
+        write-long h = first-holds not-written 2 (route-passed, (unit-passed, tt)) (ap not (taken c _ ce h)) _
 
-        pub write-done : (k : ℕ) (after : List ℕ) → k ≡ countOf u n → k ≤ length out / 188
-            → after ≡ flat (packetsOf r u payload) ++ drop (188 * k) out
-            → (answer 0 (k ∷ []) ≡ writeOf r u payload out) × (after ≡ outputOf r u payload out)
-        unfolding writeOf outputOf
-        write-done k after e h w =
-            let off : Off not-written = (ap not a, (ap not b, (ap not c, (le-ltb (length out / 188) (countOf u n) (omega arith), tt)))) in
-            let f : writeOf r u payload out ≡ answer 0 (k ∷ []) = none-holds not-written off _ ∙ rw e in
-            (sym f, w ∙ rw (f, e))
+        module _ (ch : not c ≡ false) (d : ℕ) (de : d ≡ dataOf u) (k : ℕ) (ke : k ≡ countFor (9 + d + n)) where
+          passed : Off (take 3 not-written)
+          passed = (route-passed, (unit-passed, (ap not (not-taken c _ ce ch), tt)))
+
+          pub write-full : length out / 188 < k → answer 19 [] ≡ writeOf r u payload out
+          unfolding writeOf
+          write-full h = first-holds not-written 3 passed (lt-ltb (length out / 188) (countOf u n) (omega (arith, count-is u d n k de ke))) _
+
+          pub write-done : k ≤ length out / 188 → answer 0 (k ∷ []) ≡ writeOf r u payload out
+          unfolding writeOf
+          write-done h =
+              let e = count-is u d n k de ke in
+              let off : Off not-written = (route-passed, (unit-passed, (passed .1 .1 .0, (le-ltb (length out / 188) (countOf u n) (omega arith), tt)))) in
+              sym (none-holds not-written off _ ∙ rw e)
+
+pub room : (k m : ℕ) → k ≤ m / 188 → 188 * k ≤ m
+room k m h = omega arith
+
+-- ---- for `search`
+
+pub ruleset tests-laws = (pid-low, pid-high, pid-fits, id-low, id-bare, id-bounded, id-under, id-video, times-pts, times-late, times-both, escr-late, escr-extension, rate-high, copy-high, needs)
+
+pub ruleset unit-laws = (unit-id, unit-times, unit-escr, unit-rate, unit-copy, needs)
+
+pub ruleset size-laws = (length-bounded, length-unbounded, size-long, size-length, needs)
+
+pub ruleset field-laws = (times-none, times-alone, times-pair, escr-none, escr-there, rate-none, rate-there, byte-none, byte-there, trick-written, copy-written, crc-none, crc-there, crc-written, needs)
+
+pub ruleset header-laws = (head-written, header-made, needs)
+
+pub ruleset packet-laws = (blank-full, blank-zero, blank-short, packet-put, needs)
+
+pub ruleset passed-laws = (route-pid, route-counter, size-payload, size-stated, room, needs)
+
+pub ruleset write-laws = (write-route, write-unit, write-long, write-full, write-done, needs)
+
+pub ruleset rest-laws = (rest-none, again-room, again-length, again-rest, rest-end, needs)
+
+pub ruleset packets-laws = (count-left, room-left, packets-made, needs)

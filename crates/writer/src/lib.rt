@@ -10,7 +10,7 @@ ghost use Rattle.bits.specs.Pack.{joined, bytesOf};
 ghost use Rattle.timestamp.specs.Stamp.{stampBytes};
 ghost use Rattle.pes.specs.Stream.{parsedId};
 ghost use Rattle.writer.specs.Unit.{rateField, byteField, crcField, timesFlags, escrFlag, fieldFlag, timesBytes};
-ghost use Rattle.writer.specs.Unit.{dataOf, statedLength, countOf};
+ghost use Rattle.writer.specs.Unit.{dataOf, statedLength, countFor};
 ghost use Rattle.contents.specs.Layout.{escrBytes, esRateBytes, rateTable, trickTable, copyTable, crcTable};
 ghost use Rattle.writer.specs.Packets.{headTable, timesImage, escrImage, image, headerImage};
 ghost use Rattle.writer.specs.Packets.{packetTable, stuffing, carrier, carried, packetsOf, flat, Placed};
@@ -269,32 +269,33 @@ fn data_bytes(unit: Unit) -> u8
         + 2 * crc_flag(crc)
 }
 
-// PES_packet_length, of a unit with so many bytes of payload.
-fn stated_length(unit: Unit, size: usize) -> usize
-    requires { ⌜ size ≤ 65536 ⌝ }
+// PES_packet_length, of a unit with so many bytes of data in its header and of payload.
+fn stated_length(unit: Unit, fields: u8, size: usize) -> usize
+    requires { ⌜ (fields ≡ dataOf unit) × (fields ≤ 23) × (size ≤ 65536) ⌝ }
     ensures { λ r. ⌜ r ≡ statedLength unit size ⌝ }
 {
     if unit.bounded {
-        return 3 + data_bytes(unit) as usize + size;
+        return 3 + fields as usize + size;
     }
     0
 }
 
-fn sizes_fit(unit: Unit, size: usize) -> bool
+fn sizes_fit(unit: Unit, fields: u8, size: usize) -> bool
+    requires { ⌜ (fields ≡ dataOf unit) × (fields ≤ 23) ⌝ }
     ensures { λ r. ⌜ r ≡ allOf (sizeTests unit size) ⌝ }
 {
     if 65536 < size {
         return false;
     }
-    stated_length(unit, size) <= 65535
+    stated_length(unit, fields, size) <= 65535
 }
 
-// The packets of a unit with so many bytes of payload.
-fn count_of(unit: Unit, size: usize) -> usize
-    requires { ⌜ size ≤ 65536 ⌝ }
-    ensures { λ r. ⌜ r ≡ countOf unit size ⌝ }
+// The packets that a header with so many bytes of data takes, and so many bytes of payload.
+fn count_of(fields: u8, size: usize) -> usize
+    requires { ⌜ (fields ≤ 23) × (size ≤ 65536) ⌝ }
+    ensures { λ r. ⌜ r ≡ countFor (9 + fields + size) ⌝ }
 {
-    (9 + data_bytes(unit) as usize + size + 183) / 184
+    (9 + fields as usize + size + 183) / 184
 }
 
 // ---- the header
@@ -353,8 +354,8 @@ fn rate_bytes(units: u32) -> [u8; 3]
 }
 
 // The nine bytes that every header has.
-fn head_bytes(unit: Unit, size: usize) -> [u8; 9]
-    requires { ⌜ (size ≤ 65536) × (statedLength unit size ≤ 65535) ⌝ }
+fn head_bytes(unit: Unit, fields: u8, size: usize) -> [u8; 9]
+    requires { ⌜ (fields ≡ dataOf unit) × (fields ≤ 23) × (size ≤ 65536) × (statedLength unit size ≤ 65535) ⌝ }
     ensures { λ r. ⌜ r ≡ bytesOf 9 (joined (headTable unit size)) ⌝ }
 {
     let times = unit.times;
@@ -363,7 +364,7 @@ fn head_bytes(unit: Unit, size: usize) -> [u8; 9]
     let trick = unit.trick;
     let copy = unit.copy;
     let crc = unit.crc;
-    let length = stated_length(unit, size);
+    let length = stated_length(unit, fields, size);
     let bits = 128
         + 8 * bit(unit.priority)
         + 4 * bit(unit.alignment)
@@ -384,7 +385,7 @@ fn head_bytes(unit: Unit, size: usize) -> [u8; 9]
         (length % 256) as u8,
         bits,
         flags,
-        data_bytes(unit),
+        fields,
     ]
 }
 
@@ -482,8 +483,8 @@ fn put_crc(crc: Crc, head: &mut [u8], at: usize) -> usize
 }
 
 // The header at the front of 32 bytes of FF: 9 bytes and at most 23 of data.
-fn header(unit: Unit, size: usize) -> [u8; 32]
-    requires { ⌜ (size ≤ 65536) × (statedLength unit size ≤ 65535) ⌝ }
+fn header(unit: Unit, fields: u8, size: usize) -> [u8; 32]
+    requires { ⌜ (fields ≡ dataOf unit) × (fields ≤ 23) × (size ≤ 65536) × (statedLength unit size ≤ 65535) ⌝ }
     ensures { λ r. ⌜ r ≡ placedAt (replicate 32 255) 0 (headerImage unit size) ⌝ }
 {
     let times = unit.times;
@@ -493,7 +494,7 @@ fn header(unit: Unit, size: usize) -> [u8; 32]
     let copy = unit.copy;
     let crc = unit.crc;
     let mut head = [0xFFu8; 32];
-    let nine = head_bytes(unit, size);
+    let nine = head_bytes(unit, fields, size);
     copy_at(&nine, &mut head, 0);
     let at_escr = put_times(times, &mut head, 9);
     let at_rate = put_escr(escr, &mut head, at_escr);
@@ -527,26 +528,20 @@ fn set_fields(start: u8, pid: u16, counter: u8, size: usize, p: &mut [u8])
     p[5] = 0;
 }
 
-// A packet whose payload is that of two parts, one after the other, at a place in the output.
-fn put_packet(
-    start: u8,
-    pid: u16,
-    counter: u8,
-    head: &[u8],
-    body: &[u8],
-    out: &mut [u8],
-    place: usize,
-)
-    requires { ⌜ (start ≤ 1) × (pid < 2 ^ 13) × (counter ≤ 15) × (length (now head) + length (now body) ≤ 184) ⌝ }
+// A packet whose payload is that of two parts, one after the other, at the front of the output. The payload leaves the image before the
+// four bytes ahead of it: so, where the sizes are known, the compiler makes one copy of two.
+fn put_packet(start: u8, pid: u16, counter: u8, head: &[u8], body: &[u8], out: &mut [u8])
+    requires { ⌜ (start ≤ 1) × (pid < 2 ^ 13) × (counter ≤ 15) × (length (now head) + length (now body) ≤ 184) × (188 ≤ length (now out)) ⌝ }
     ensures { λ _. ⌜ now (out .exit)
-        ≡ placedAt (now (out .entry)) place (carrier start pid counter (now (head .entry) ++ now (body .entry))) ⌝ }
+        ≡ placedAt (now (out .entry)) 0 (carrier start pid counter (now (head .entry) ++ now (body .entry))) ⌝ }
 {
     let size = head.len() + body.len();
     let mut p = [0xFFu8; 188];
     set_fields(start, pid, counter, size, &mut p);
     copy_at(head, &mut p, 188 - size);
     copy_at(body, &mut p, 188 - body.len());
-    copy_at(&p, out, place);
+    copy_at(&p[4..], out, 4);
+    copy_at(&p[0..4], out, 0);
 }
 
 // ---- the packets of a unit
@@ -560,37 +555,50 @@ fn least(a: usize, b: usize) -> usize
     b
 }
 
-// Packets with these bytes, 184 each and the last the rest, one after another at the front of the output.
+// Packets with these bytes, 184 each and the last the rest, one after another at the front of the output. All but the last go by a loop
+// where every size is known.
 fn put_rest(pid: u16, counter: u8, body: &[u8], count: usize, out: &mut [u8])
-    requires { ⌜ (pid < 2 ^ 13) × (counter ≤ 15) × (188 * count ≤ length (now out)) ⌝ }
+    requires { ⌜ (pid < 2 ^ 13) × (counter ≤ 15) × (count ≡ countFor (length (now body))) × (188 * count ≤ length (now out)) ⌝ }
     ensures { λ _. ⌜ now (out .exit) ≡ flat (carried count 0 pid counter (now (body .entry))) ++ drop (188 * count) (now (out .entry)) ⌝ }
 {
+    if count == 0 {
+        return;
+    }
     let mut left = count;
     let mut at = 0;
     let mut place = 0;
     let mut next = counter;
-    while 0 < left {
-        let end = at + least(184, body.len() - at);
-        put_packet(0, pid, next, &body[..0], &body[at..end], out, place);
+    while 1 < left {
+        let end = at + 184;
+        let past = place + 188;
+        put_packet(
+            0,
+            pid,
+            next,
+            &body[..0],
+            &body[at..end],
+            &mut out[place..past],
+        );
         next = (next + 1) % 16;
         at = end;
-        place += 188;
+        place = past;
         left -= 1;
     }
+    put_packet(0, pid, next, &body[..0], &body[at..], &mut out[place..]);
 }
 
-fn put_packets(route: Route, unit: Unit, payload: &[u8], count: usize, out: &mut [u8])
-    requires { ⌜ (route .pid < 2 ^ 13) × (route .counter ≤ 15)
+fn put_packets(route: Route, unit: Unit, fields: u8, payload: &[u8], count: usize, out: &mut [u8])
+    requires { ⌜ (route .pid < 2 ^ 13) × (route .counter ≤ 15) × (fields ≡ dataOf unit) × (fields ≤ 23)
         × (length (now payload) ≤ 65536) × (statedLength unit (length (now payload)) ≤ 65535)
-        × (count ≡ countOf unit (length (now payload))) × (188 * count ≤ length (now out)) ⌝ }
+        × (count ≡ countFor (9 + fields + length (now payload))) × (188 * count ≤ length (now out)) ⌝ }
     ensures { λ _. ⌜ now (out .exit) ≡ flat (packetsOf route unit (now (payload .entry))) ++ drop (188 * count) (now (out .entry)) ⌝ }
 {
     let pid = route.pid;
     let counter = route.counter;
-    let head = header(unit, payload.len());
-    let size = 9 + data_bytes(unit) as usize;
+    let head = header(unit, fields, payload.len());
+    let size = 9 + fields as usize;
     let first = least(184 - size, payload.len());
-    put_packet(1, pid, counter, &head[..size], &payload[..first], out, 0);
+    put_packet(1, pid, counter, &head[0..size], &payload[0..first], out);
     put_rest(
         pid,
         (counter + 1) % 16,
@@ -611,13 +619,14 @@ pub fn write(route: Route, unit: Unit, payload: &[u8], out: &mut [u8]) -> Writte
     if !unit_fits(unit) {
         return Written::BadField;
     }
-    if !sizes_fit(unit, payload.len()) {
+    let fields = data_bytes(unit);
+    if !sizes_fit(unit, fields, payload.len()) {
         return Written::TooLong;
     }
-    let count = count_of(unit, payload.len());
+    let count = count_of(fields, payload.len());
     if out.len() / 188 < count {
         return Written::NoRoom;
     }
-    put_packets(route, unit, payload, count, out);
+    put_packets(route, unit, fields, payload, count, out);
     Written::Done(count)
 }

@@ -1,32 +1,9 @@
-use native.Mathlib.Omega.{arith}
-use mathlib.Core.Path.{ap}
-use Rattle.writer.proofs.Laws.{field-none, field-there, one-byte}
-use Rattle.contents.specs.Layout.{trickTable}
-use Rattle.writer.specs.Unit.{byteField}
-use borrow.Author.Needs.{needs}
+use Rattle.writer.proofs.Laws.{field-laws}
 use Rattle.writer.proofs.put_trick.Statement.{statement}
 use Rattle.writer.proofs.put_trick.Tie as tie
 
-returns : tie.Need-returns
-returns c = field-none _ _ 1 trickTable (byteField (c .before .before .before .args .trick)) (ap byteField (c .enum-told .given .1))
-
-returns-2 : tie.Need-returns-2
-returns-2 c =
-    let b2 = c .before .before in
-    let b6 = b2 .before .before .before .before in
-    let b9 = b6 .before .before .before in
-    field-there _ _ 1 trickTable (byteField (b9 .args .trick)) (b6 .trick .given .0 .0) _ _ (ap byteField (b6 .trick .given .1))
-    (one-byte _ _ (omega arith) (omega arith)) (b2 .copy-at .ensures)
-
 pub put-trick-spec : {M : Type 1} → statement M
-put-trick-spec =
-    tie.close
-    (tie.spec
-    (λ c. search needs)
-    (λ c. search needs)
-    (λ c. search needs)
-    (λ c κs. search needs)
-    (λ c. search needs)
-    returns
-    (λ c. search needs)
-    returns-2)
+put-trick-spec {M} =
+    let answers = tie.spec {M = M} (λ c. search field-laws) (λ c. search field-laws) (λ c. search field-laws) (λ c κs. search field-laws)
+    (λ c. search field-laws) (λ c. search field-laws) (λ c. search field-laws) (λ c. search field-laws) in
+    tie.close answers
