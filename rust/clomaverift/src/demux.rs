@@ -5,14 +5,18 @@ use crate::gather::Gathering;
 use crate::machine::{Event, EventKind, Machine};
 use crate::packet::{ClockRef, Packet, Pid};
 use crate::pes::{PesHeader, PesLength, PtsDts, StreamId, Timestamp};
-use alloc::collections::BTreeMap;
+use alloc::vec;
 use alloc::vec::Vec;
+use core::fmt;
 
 /// The log of one packet, which has at most two events.
 const LOG: usize = 16;
 
-/// The most bytes of a unit, where the caller says nothing else.
-const STORE: usize = 16 << 20;
+/// The most bytes of a unit, if the caller says nothing else.
+const UNIT: usize = 16 << 20;
+
+/// The most bytes of all stores together, if the caller says nothing else.
+const MEMORY: usize = 64 << 20;
 
 /// A packet without content: with it a state is closed after the last packet of a recording.
 const STUFFING: [u8; Packet::SIZE] = {
@@ -23,7 +27,7 @@ const STUFFING: [u8; Packet::SIZE] = {
     bytes
 };
 
-/// Something found in a recording. An index is that of a packet among all that were pushed, the first being 0: the packet's place in a
+/// Something found in a recording. An index is that of a packet among all that were pushed, the first being 0: the packet's offset in a
 /// file of whole packets is 188 times the index. More may be found, and more said of each: a `match` needs an arm for the rest, and `..` in
 /// its patterns.
 #[derive(Clone, Copy, Debug)]
@@ -49,23 +53,23 @@ pub enum Found<'a> {
     },
     /// A unit that has ended.
     Unit(FoundUnit<'a>),
-    /// The counter of a PID breaks. The unit that was open, if there was one, is lost.
+    /// The counter of a packet does not follow the one before on its PID. The unit that was open, if there was one, is lost.
     #[non_exhaustive]
     ContinuityError {
         /// The PID.
         pid: Pid,
-        /// The packet whose counter does not follow the one before.
+        /// The packet whose counter does not follow.
         index: u64,
     },
-    /// The open unit of a PID was given up, because it has more bytes than are allowed.
+    /// The open unit of a PID was given up: it is longer than [`Demux::at_most`] allows, or [`Demux::memory`] is used up.
     #[non_exhaustive]
     StoreFull {
         /// The PID.
         pid: Pid,
-        /// The packet that has the byte too many.
+        /// The packet whose payload does not fit.
         index: u64,
     },
-    /// A program clock reference. One that is announced and cut off is not told.
+    /// A program clock reference. One that is flagged and truncated is not reported.
     #[non_exhaustive]
     Clock {
         /// The PID.
@@ -74,6 +78,16 @@ pub enum Found<'a> {
         index: u64,
         /// The clock reference.
         pcr: ClockRef,
+    },
+    /// A packet that is marked as damaged or as scrambled was dropped. This is reported on demand: [`Marked::Report`].
+    #[non_exhaustive]
+    Dropped {
+        /// The PID.
+        pid: Pid,
+        /// The packet.
+        index: u64,
+        /// How it is marked.
+        mark: Mark,
     },
     /// A packet was refused, and counts in the index alone: [`Error::NoSync`], or [`Error::WrongLength`] for bytes after the last
     /// whole packet.
@@ -120,8 +134,42 @@ impl FoundUnit<'_> {
     }
 }
 
-/// Finds the units, clock references and continuity errors of a recording, with a machine and a store for each PID. The stuffing PID is
-/// left out.
+/// What [`Demux`] does with marked packets: those that an earlier receiver marked as damaged ([`Packet::transport_error_indicator`]), and
+/// those whose payload is scrambled ([`Packet::transport_scrambling_control`]).
+#[derive(Clone, Copy, Debug, Default, PartialEq, Eq, Hash)]
+#[non_exhaustive]
+pub enum Marked {
+    /// Drops them, as the demultiplexer of mpeg2ts-reader does: nothing is found in them, and their counter does not count. So the next
+    /// packet of the PID that is not dropped is a continuity error, unless the 16 counters have come round.
+    #[default]
+    Drop,
+    /// Drops them, and reports each as [`Found::Dropped`].
+    Report,
+    /// Takes them like any other packet, as mpeg2ts-reader's `PesPacketFilter` does.
+    Take,
+}
+
+/// How a packet is marked.
+#[derive(Clone, Copy, Debug, PartialEq, Eq, Hash)]
+#[non_exhaustive]
+pub enum Mark {
+    /// An earlier receiver found it damaged. It may be marked as scrambled too.
+    Damaged,
+    /// Its payload is scrambled.
+    Scrambled,
+}
+
+impl Mark {
+    fn of(packet: &Packet<'_>) -> Option<Mark> {
+        if packet.transport_error_indicator() {
+            return Some(Mark::Damaged);
+        }
+        packet.transport_scrambling_control().is_scrambled().then_some(Mark::Scrambled)
+    }
+}
+
+/// Finds the units, clock references and continuity errors of a recording, with a machine and a store for each PID. Packets of the stuffing
+/// PID, and packets that are marked as damaged or scrambled, are dropped.
 ///
 /// ```
 /// use clomaverift::{Demux, Found, Unit};
@@ -142,13 +190,38 @@ impl FoundUnit<'_> {
 /// assert_eq!(told, [(0x100, 97_200, vec![1; 500]), (0x101, 93_600, vec![2; 100])]);
 /// # Ok::<(), clomaverift::Error>(())
 /// ```
-#[derive(Debug)]
+///
+/// # Memory
+///
+/// The payload of an open unit is kept in the store of its PID. All stores together hold at most the bytes that [`Demux::memory`] allows,
+/// 64 MiB if nothing else is said, and a unit has at most those of [`Demux::at_most`], 16 MiB. Beside that a `Demux` has 16 KiB, and about
+/// 200 bytes for each PID that it has seen.
+///
+/// A store grows by doubling. If it cannot grow within the bound, memory that no open unit needs is freed first: the stores of PIDs without
+/// an open unit, and what is more than double the unit in others. This is done at most once in as many packets as there are PIDs. If there
+/// is still no room, the unit that has to grow is given up: it is reported as [`Found::StoreFull`], its memory is freed, and its PID goes on
+/// with the next unit. Units of other PIDs are not touched.
 pub struct Demux {
-    streams: BTreeMap<Pid, Stream>,
-    only: Option<Vec<Pid>>,
-    most: usize,
+    /// For each PID the place of its stream, or [`NEW`] or [`UNWANTED`].
+    slots: Vec<u16>,
+    streams: Vec<Stream>,
+    marked: Marked,
+    /// The most bytes of a unit.
+    unit: usize,
+    /// The most bytes of all stores.
+    memory: usize,
+    /// The bytes of all stores.
+    held: usize,
+    /// The first packet at which memory may be freed again.
+    free_again: u64,
     index: u64,
 }
+
+/// The slot of a PID of which no packet was taken.
+const NEW: u16 = u16::MAX;
+
+/// The slot of a PID that is left out.
+const UNWANTED: u16 = u16::MAX - 1;
 
 impl Default for Demux {
     fn default() -> Demux {
@@ -156,14 +229,25 @@ impl Default for Demux {
     }
 }
 
+impl fmt::Debug for Demux {
+    fn fmt(&self, f: &mut fmt::Formatter<'_>) -> fmt::Result {
+        let mut parts = f.debug_struct("Demux");
+        parts.field("index", &self.index).field("streams", &self.streams).field("marked", &self.marked);
+        parts.field("at_most", &self.unit).field("memory", &self.memory).field("held", &self.held).finish()
+    }
+}
+
 impl Demux {
-    /// Of every PID but that of stuffing, and of units of up to 16 MiB.
+    /// Of every PID but that of stuffing; marked packets are dropped; of units of up to 16 MiB, and 64 MiB in all.
     #[must_use]
     pub fn new() -> Demux {
-        Demux { streams: BTreeMap::new(), only: None, most: STORE, index: 0 }
+        let mut slots = vec![NEW; Pid::PID_COUNT];
+        slots[usize::from(Pid::STUFFING)] = UNWANTED;
+        let (streams, marked) = (Vec::new(), Marked::default());
+        Demux { slots, streams, marked, unit: UNIT, memory: MEMORY, held: 0, free_again: 0, index: 0 }
     }
 
-    /// Of these PIDs alone.
+    /// Of these PIDs alone, also of the stuffing PID if it is among them. What was open before is forgotten.
     ///
     /// ```
     /// use clomaverift::{Demux, Found, Pid, Unit};
@@ -174,14 +258,64 @@ impl Demux {
     /// # Ok::<(), clomaverift::Error>(())
     /// ```
     #[must_use]
-    pub fn only(self, pids: &[Pid]) -> Demux {
-        Demux { only: Some(pids.to_vec()), ..self }
+    pub fn only(mut self, pids: &[Pid]) -> Demux {
+        self.slots.fill(UNWANTED);
+        pids.iter().for_each(|pid| self.slots[usize::from(*pid)] = NEW);
+        (self.streams, self.held) = (Vec::new(), 0);
+        self
+    }
+
+    /// With marked packets treated like this.
+    ///
+    /// ```
+    /// use clomaverift::{Demux, Found, Mark, Marked, Unit};
+    ///
+    /// let mut recording = Unit::new(0x100, 0xE0).packets(&[1; 100])?;
+    /// recording[3] |= 0x80; // the first scrambling bit
+    /// Demux::new().push(&recording, |found| panic!("{found:?}"));
+    ///
+    /// let mut demux = Demux::new().marked(Marked::Report);
+    /// demux.push(&recording, |found| assert!(matches!(found, Found::Dropped { mark: Mark::Scrambled, .. })));
+    /// # Ok::<(), clomaverift::Error>(())
+    /// ```
+    #[must_use]
+    pub fn marked(self, marked: Marked) -> Demux {
+        Demux { marked, ..self }
     }
 
     /// With units of up to so many bytes.
     #[must_use]
     pub fn at_most(self, bytes: usize) -> Demux {
-        Demux { most: bytes, ..self }
+        Demux { unit: bytes, ..self }
+    }
+
+    /// With stores of up to so many bytes, all PIDs together.
+    ///
+    /// ```
+    /// use clomaverift::{Demux, Found, Unit};
+    ///
+    /// let first = Unit::new(0x100, 0xE0).packets(&[1; 700])?;
+    /// let second = Unit::new(0x101, 0xE0).packets(&[2; 700])?;
+    /// let mut demux = Demux::new().memory(1_100);
+    /// let mut full = Vec::new();
+    /// demux.push(&[first, second].concat(), |found| {
+    ///     if let Found::StoreFull { pid, .. } = found {
+    ///         full.push(u16::from(pid));
+    ///     }
+    /// });
+    /// assert_eq!(full, [0x101]);
+    /// assert!(demux.held() <= 1_100);
+    /// # Ok::<(), clomaverift::Error>(())
+    /// ```
+    #[must_use]
+    pub fn memory(self, bytes: usize) -> Demux {
+        Demux { memory: bytes, ..self }
+    }
+
+    /// The bytes that the stores have now.
+    #[must_use]
+    pub fn held(&self) -> usize {
+        self.held
     }
 
     /// The packets pushed so far: the index of the next one.
@@ -206,28 +340,72 @@ impl Demux {
             Err(error) => return tell(Found::Refused { index, error }),
         };
         let pid = packet.pid();
-        if !self.wants(pid) {
+        let slot = self.slots[usize::from(pid)];
+        if slot == UNWANTED {
             return;
+        }
+        if self.marked != Marked::Take {
+            if let Some(mark) = Mark::of(&packet) {
+                if self.marked == Marked::Report {
+                    tell(Found::Dropped { pid, index, mark });
+                }
+                return;
+            }
         }
         if let Some(Ok(pcr)) = packet.adaptation_field().map(|field| field.pcr()) {
             tell(Found::Clock { pid, index, pcr });
         }
-        let stream = self.streams.entry(pid).or_insert_with(|| Stream::new(pid));
-        stream.take(bytes, index, self.most, tell);
+        let slot = if slot == NEW { self.add(pid) } else { usize::from(slot) };
+        self.step(slot, bytes, tell);
     }
 
-    fn wants(&self, pid: Pid) -> bool {
-        match &self.only {
-            Some(pids) => pids.contains(&pid),
-            None => pid != Pid::STUFFING,
+    /// A stream for a PID.
+    #[cold]
+    fn add(&mut self, pid: Pid) -> usize {
+        let slot = self.streams.len();
+        self.slots[usize::from(pid)] = slot as u16;
+        self.streams.push(Stream::new(pid));
+        slot
+    }
+
+    /// Has a stream take a packet.
+    fn step(&mut self, slot: usize, packet: &[u8], tell: &mut impl FnMut(Found<'_>)) {
+        let mut log = [0; LOG];
+        let machine = &mut self.streams[slot].machine;
+        machine.rewind();
+        sure(machine.step(packet, &mut log));
+        for event in machine.events(&log) {
+            let event = sure(event);
+            let need = self.streams[slot].need(event);
+            if need > self.streams[slot].store.len() {
+                self.make_room(slot, need);
+            }
+            if !self.streams[slot].event(packet, event, self.index, tell) {
+                self.held -= self.streams[slot].free();
+            }
         }
+    }
+
+    /// Lets the store of a stream grow to so many bytes, or to as many as are allowed.
+    #[cold]
+    fn make_room(&mut self, slot: usize, need: usize) {
+        if need > self.room(slot) && self.index >= self.free_again {
+            self.held -= self.streams.iter_mut().map(Stream::trim).sum::<usize>();
+            self.free_again = self.index + self.streams.len() as u64;
+        }
+        let size = need.next_power_of_two().min(self.unit).min(self.room(slot));
+        self.held += self.streams[slot].grow(size);
+    }
+
+    /// How large the store of a stream can be beside the others.
+    fn room(&self, slot: usize) -> usize {
+        self.memory.saturating_sub(self.held - self.streams[slot].store.len())
     }
 
     /// Tells the units that are still open, by PID: no packet says that they have ended.
-    pub fn finish(self, mut tell: impl FnMut(Found<'_>)) {
-        for (_, mut stream) in self.streams {
-            stream.finish(&mut tell);
-        }
+    pub fn finish(mut self, mut tell: impl FnMut(Found<'_>)) {
+        self.streams.sort_by_key(|stream| stream.pid);
+        self.streams.iter_mut().for_each(|stream| stream.finish(&mut tell));
     }
 }
 
@@ -248,7 +426,6 @@ impl Opened {
 }
 
 /// A PID's machine, and its unit.
-#[derive(Debug)]
 struct Stream {
     pid: Pid,
     machine: Machine,
@@ -257,23 +434,60 @@ struct Stream {
     unit: Option<Opened>,
 }
 
+impl fmt::Debug for Stream {
+    fn fmt(&self, f: &mut fmt::Formatter<'_>) -> fmt::Result {
+        let mut parts = f.debug_struct("Stream");
+        parts.field("pid", &self.pid).field("machine", &self.machine).field("gathering", &self.gathering);
+        parts.field("store", &self.store.len()).field("unit", &self.unit).finish()
+    }
+}
+
 impl Stream {
     fn new(pid: Pid) -> Stream {
         Stream { pid, machine: Machine::new(), gathering: Gathering::new(), store: Vec::new(), unit: None }
     }
 
-    fn take(&mut self, packet: &[u8], index: u64, most: usize, tell: &mut impl FnMut(Found<'_>)) {
-        let mut log = [0; LOG];
-        self.machine.rewind();
-        sure(self.machine.step(packet, &mut log));
-        for event in self.machine.events(&log) {
-            self.event(packet, sure(event), index, most, tell);
+    /// How many bytes the store has to have for an event.
+    fn need(&self, event: Event) -> usize {
+        match event.kind {
+            EventKind::BeginPacket => event.length.into(),
+            EventKind::ContinuePacket if self.gathering.is_open() => self.gathering.count() + usize::from(event.length),
+            _ => 0,
         }
     }
 
-    fn event(&mut self, packet: &[u8], event: Event, index: u64, most: usize, tell: &mut impl FnMut(Found<'_>)) {
+    /// Lets the store have at least so many bytes: how many more these are.
+    fn grow(&mut self, size: usize) -> usize {
+        let more = size.saturating_sub(self.store.len());
+        self.store.reserve_exact(more);
+        self.store.resize(self.store.len() + more, 0);
+        more
+    }
+
+    /// Frees what the unit does not need: how many bytes.
+    fn trim(&mut self) -> usize {
+        if !self.gathering.is_open() {
+            self.gathering = Gathering::new(); // a closed unit still names its bytes in the store
+        }
+        let before = self.store.len();
+        self.store.truncate(match self.gathering.count() {
+            0 => 0,
+            count => count.next_power_of_two(),
+        });
+        self.store.shrink_to_fit();
+        before - self.store.len()
+    }
+
+    /// Frees the store of a unit that was given up: how many bytes.
+    fn free(&mut self) -> usize {
+        core::mem::take(&mut self.store).len()
+    }
+
+    /// Takes an event. Whether there was room for its bytes.
+    fn event(&mut self, packet: &[u8], event: Event, index: u64, tell: &mut impl FnMut(Found<'_>)) -> bool {
         let pid = self.pid;
-        if !self.gather(packet, event, most) {
+        let room = self.gather(packet, event);
+        if !room {
             self.unit = None;
             tell(Found::StoreFull { pid, index });
         }
@@ -287,26 +501,17 @@ impl Stream {
                 tell(Found::ContinuityError { pid, index });
             }
         }
+        room
     }
 
     /// Takes an event into the store. Whether there was room for its bytes; nothing else can be refused.
-    fn gather(&mut self, packet: &[u8], event: Event, most: usize) -> bool {
-        self.make_room(event.length.into(), most);
+    fn gather(&mut self, packet: &[u8], event: Event) -> bool {
         let gathered = self.gathering.gather(packet, event, &mut self.store);
         let room = gathered != Err(Error::StoreFull);
         if room {
             sure(gathered);
         }
         room
-    }
-
-    /// Lets the store grow, so that it has room for so many bytes more, or for as many as are allowed.
-    fn make_room(&mut self, more: usize, most: usize) {
-        let need = self.gathering.count() + more;
-        if self.store.len() < need {
-            let size = need.next_power_of_two().min(most);
-            self.store.resize(size.max(self.store.len()), 0);
-        }
     }
 
     fn begin(&mut self, bytes: &[u8], index: u64, tell: &mut impl FnMut(Found<'_>)) {
@@ -323,7 +528,7 @@ impl Stream {
     }
 
     fn finish(&mut self, tell: &mut impl FnMut(Found<'_>)) {
-        let close = Event { kind: EventKind::EndPacket, index: 0, place: 0, length: 0 };
+        let close = Event::new(EventKind::EndPacket, 0, 0, 0);
         sure(self.gathering.gather(&STUFFING, close, &mut self.store));
         self.end(&STUFFING, false, tell);
     }
@@ -346,6 +551,7 @@ mod tests {
             Found::ContinuityError { pid, index } => format!("{index} error {pid:?}"),
             Found::StoreFull { pid, index } => format!("{index} full {pid:?}"),
             Found::Clock { pid, index, pcr } => format!("{index} clock {pid:?} {}", u64::from(pcr)),
+            Found::Dropped { pid, index, mark } => format!("{index} dropped {pid:?} {mark:?}"),
             Found::Refused { index, error } => format!("{index} refused {}", error.number()),
         }
     }
@@ -406,5 +612,129 @@ mod tests {
         let unit = Unit::new(0x30, 0xE0).packets(&[1; 100]).unwrap();
         let expected = ["0 start Pid(0030)", "0 full Pid(0030)", "0 begin Pid(0030) Video(0)"];
         assert_eq!(lines(Demux::new().at_most(50), &unit), expected);
+    }
+
+    /// A unit of four packets, of which the second is marked as damaged and the third as scrambled and damaged.
+    fn marked_packets() -> Vec<u8> {
+        let mut unit = Unit::new(0x30, 0xE0).packets(&[1; 700]).unwrap();
+        unit[188 + 1] |= 0x80;
+        unit[2 * 188 + 1] |= 0x80;
+        unit[2 * 188 + 3] |= 0x40;
+        unit
+    }
+
+    #[test]
+    fn marked_packets_are_dropped_and_their_counters_do_not_count() {
+        let expected = ["0 start Pid(0030)", "0 begin Pid(0030) Video(0)", "3 error Pid(0030)"];
+        assert_eq!(lines(Demux::new(), &marked_packets()), expected);
+        assert_eq!(lines(Demux::new().marked(Marked::Drop), &marked_packets()), expected);
+    }
+
+    #[test]
+    fn marked_packets_are_reported_on_demand() {
+        let mut packets = marked_packets();
+        packets[3 * 188 + 3] |= 0xC0;
+        let expected = [
+            "0 start Pid(0030)",
+            "0 begin Pid(0030) Video(0)",
+            "1 dropped Pid(0030) Damaged",
+            "2 dropped Pid(0030) Damaged",
+            "3 dropped Pid(0030) Scrambled",
+            "0 unit Pid(0030) None None 175 false",
+        ];
+        assert_eq!(lines(Demux::new().marked(Marked::Report), &packets), expected);
+        let others = Demux::new().marked(Marked::Report).only(&[Pid::PAT]);
+        assert_eq!(lines(others, &packets), [""; 0]);
+    }
+
+    #[test]
+    fn marked_packets_are_taken_on_demand() {
+        let expected = ["0 start Pid(0030)", "0 begin Pid(0030) Video(0)", "0 unit Pid(0030) None None 700 false"];
+        assert_eq!(lines(Demux::new().marked(Marked::Take), &marked_packets()), expected);
+        let mut clock = clock_packet(0x32);
+        clock[3] |= 0x80;
+        assert_eq!(lines(Demux::new(), &clock), [""; 0]);
+        assert_eq!(lines(Demux::new().marked(Marked::Take), &clock), ["0 clock Pid(0032) 27000015"]);
+    }
+
+    #[test]
+    fn the_stuffing_pid_is_taken_on_demand() {
+        assert_eq!(lines(Demux::new(), &STUFFING), [""; 0]);
+        let mut start = STUFFING;
+        start[1] |= 0x40;
+        assert_eq!(lines(Demux::new().only(&[Pid::STUFFING]), &start), ["0 start Pid(1fff)"]);
+    }
+
+    /// The first packet of a unit on each of so many PIDs.
+    fn begins(pids: u16) -> Vec<u8> {
+        (0..pids)
+            .flat_map(|at| Unit::new(0x100 + at, 0xE0).unbounded().packets(&[1; 1_000]).unwrap()[..188].to_vec())
+            .collect()
+    }
+
+    #[test]
+    fn memory_is_bounded_over_all_pids() {
+        let recording = begins(100);
+        let mut demux = Demux::new().memory(20 * 256);
+        let mut full = Vec::new();
+        for packet in recording.chunks(188) {
+            demux.push(packet, |found| {
+                if let Found::StoreFull { pid, .. } = found {
+                    full.push(u16::from(pid) - 0x100);
+                }
+            });
+            assert!(demux.held() <= 20 * 256);
+            assert_eq!(demux.held(), demux.streams.iter().map(|stream| stream.store.len()).sum::<usize>());
+        }
+        assert_eq!(full, (20..100).collect::<Vec<u16>>());
+        let mut open = 0;
+        demux.finish(|_| open += 1);
+        assert_eq!(open, 20);
+    }
+
+    #[test]
+    fn a_unit_that_is_given_up_frees_its_memory() {
+        let long = Unit::new(0x30, 0xE0).unbounded().packets(&[1; 2_000]).unwrap();
+        let mut demux = Demux::new().memory(1_024);
+        let mut found = Vec::new();
+        demux.push(&long, |it| found.push(line(it)));
+        assert_eq!(found, ["0 start Pid(0030)", "0 begin Pid(0030) Video(0)", "5 full Pid(0030)"]);
+        assert_eq!(demux.held(), 0);
+        let next = Unit::new(0x30, 0xE0).counter(11).packets(&[2; 900]).unwrap();
+        let other = Unit::new(0x31, 0xE0).packets(&[2; 10]).unwrap();
+        demux.push(&[&next[..], &other].concat(), |it| found.push(line(it)));
+        let rest =
+            ["11 begin Pid(0030) Video(0)", "16 start Pid(0031)", "16 full Pid(0031)", "16 begin Pid(0031) Video(0)"];
+        assert_eq!(found[3..], rest);
+        demux.finish(|it| found.push(line(it)));
+        assert_eq!(found[7..], ["11 unit Pid(0030) None None 900 false"]);
+    }
+
+    #[test]
+    fn memory_that_no_open_unit_needs_is_freed_for_others() {
+        // The first PID has had a long unit, and has a short one now; the second one has none after a continuity error.
+        let long = Unit::new(0x30, 0xE0).packets(&[1; 1_000]).unwrap();
+        let short = Unit::new(0x30, 0xE0).counter(6).packets(&[2; 100]).unwrap();
+        let lost = Unit::new(0x31, 0xE0).packets(&[3; 1_000]).unwrap();
+        let mut demux = Demux::new().memory(2_500);
+        let mut found = Vec::new();
+        demux.push(&[&long[..], &short, &lost[..4 * 188], &lost[5 * 188..]].concat(), |it| found.push(line(it)));
+        assert_eq!((found.last().unwrap().as_str(), demux.held()), ("11 error Pid(0031)", 2_048));
+        let new = Unit::new(0x32, 0xE0).packets(&[4; 2_000]).unwrap();
+        demux.push(&new, |it| found.push(line(it)));
+        assert_eq!(demux.held(), 128 + 2_048);
+        demux.finish(|it| found.push(line(it)));
+        let units: Vec<_> = found.iter().filter(|line| line.contains("unit")).collect();
+        let expected = [
+            "0 unit Pid(0030) None None 1000 true",
+            "6 unit Pid(0030) None None 100 false",
+            "12 unit Pid(0032) None None 2000 false",
+        ];
+        assert_eq!(units, expected);
+    }
+
+    #[test]
+    fn a_stream_is_small() {
+        assert!(core::mem::size_of::<Stream>() <= 200);
     }
 }

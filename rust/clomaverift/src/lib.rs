@@ -113,7 +113,7 @@ pub mod packet;
 pub mod pes;
 mod writer;
 
-pub use demux::{Demux, Found, FoundUnit};
+pub use demux::{Demux, Found, FoundUnit, Mark, Marked};
 pub use error::Error;
 pub use gather::Gathering;
 pub use machine::{Event, EventKind, Events, Machine, Phase, Ran};

@@ -1,6 +1,6 @@
 //! Damaged recordings of two PIDs: whatever the bytes, the driver finds the units that a plain reading of the events finds.
 
-use clomaverift::{Demux, EventKind, Found, Machine, Packet, PesHeader, Pid};
+use clomaverift::{Demux, EventKind, Found, Machine, Marked, Packet, PesHeader, Pid};
 use std::collections::BTreeMap;
 
 const SAMPLE: &[u8] = include_bytes!(concat!(env!("CARGO_MANIFEST_DIR"), "/../../samples/sample.ts"));
@@ -49,30 +49,32 @@ fn damaged(rng: &mut Rng) -> Vec<u8> {
     recording
 }
 
-fn found(recording: &[u8]) -> (Vec<Told>, Vec<Told>) {
+fn found(recording: &[u8], how: Marked) -> (Vec<Told>, Vec<Told>) {
     let (mut ended, mut open) = (Vec::new(), Vec::new());
     let told = |found: Found<'_>, units: &mut Vec<Told>| {
         if let Found::Unit(unit) = found {
             units.push((unit.pid.into(), unit.index, unit.payload.to_vec()));
         }
     };
-    let mut demux = Demux::new();
+    let mut demux = Demux::new().marked(how);
     demux.push(recording, |found| told(found, &mut ended));
     demux.finish(|found| told(found, &mut open));
     (ended, open)
 }
 
 /// The same by the events of a machine for each PID, and by the headers.
-fn plain(recording: &[u8]) -> (Vec<Told>, Vec<Told>) {
+fn plain(recording: &[u8], how: Marked) -> (Vec<Told>, Vec<Told>) {
     let mut machines = BTreeMap::new();
     let mut open: BTreeMap<Pid, Told> = BTreeMap::new();
     let mut ended = Vec::new();
     for (index, bytes) in recording.chunks(Packet::SIZE).enumerate() {
-        let pid = match Packet::try_new(bytes) {
-            Ok(packet) => packet.pid(),
+        let packet = match Packet::try_new(bytes) {
+            Ok(packet) => packet,
             Err(_) => continue,
         };
-        if pid == Pid::STUFFING {
+        let pid = packet.pid();
+        let marked = packet.transport_error_indicator() || packet.transport_scrambling_control().is_scrambled();
+        if pid == Pid::STUFFING || marked && how == Marked::Drop {
             continue;
         }
         let machine = machines.entry(pid).or_insert_with(Machine::new);
@@ -106,11 +108,13 @@ fn units_are_those_of_a_plain_reading() {
     let mut units = 0;
     for seed in 0..RECORDINGS {
         let recording = damaged(&mut Rng(seed));
-        let told = found(&recording);
-        units += told.0.len() + told.1.len();
-        assert_eq!(told, plain(&recording), "seed {seed}");
+        for how in [Marked::Drop, Marked::Take] {
+            let told = found(&recording, how);
+            units += told.0.len() + told.1.len();
+            assert_eq!(told, plain(&recording, how), "seed {seed}");
+        }
     }
-    assert!(units > RECORDINGS as usize, "only {units} units");
+    assert!(units > 2 * RECORDINGS as usize, "only {units} units");
 }
 
 #[test]
@@ -119,6 +123,8 @@ fn bytes_that_are_no_recording() {
     for _ in 0..RECORDINGS {
         let mut bytes: Vec<u8> = (0..rng.below(2_000)).map(|_| rng.below(256) as u8).collect();
         bytes.chunks_mut(Packet::SIZE).for_each(|packet| packet[0] = 0x47);
-        assert_eq!(found(&bytes), plain(&bytes));
+        for how in [Marked::Drop, Marked::Take] {
+            assert_eq!(found(&bytes, how), plain(&bytes, how));
+        }
     }
 }
