@@ -10,11 +10,11 @@ use denote.Enum.Declared.{tagOf}
 use lib.ListN.{length, getD, take, drop}
 use lib.Dec.{eqb, leb, ltb}
 use borrow.Author.Needs.{needs}
-use borrow.Author.Tests.{lt-ltb, le-ltb, ltb-true, ltb-false, leb-true, leb-false, eq-eqb, ne-eqb, eqb-true, eqb-false}
+use borrow.Author.Tests.{lt-ltb, le-ltb, ltb-true, ltb-false, le-leb, lt-leb, leb-true, leb-false, eq-eqb, ne-eqb, eqb-true, eqb-false}
 use Rattle.bits.specs.Answer.{Answer, answer, pick, Check, firstOf, partAt, placedAt}
 use Rattle.bits.proofs.Bools.{both, not-both, tested, neither-holds}
 use Rattle.bits.proofs.Checks.{ne-other, eq-other, firstOf-first, firstOf-past}
-use Rattle.bits.proofs.Parts.{part-in, part-cut, part-length, part-of-part, part-refused, part-done, placed-none, placed-out}
+use Rattle.bits.proofs.Parts.{part-in, part-cut, part-length, part-of-part, part-refused, part-done, placed-none, placed-out, front}
 use Rattle.packet.specs.Packet.{notPacket}
 use Rattle.pes_header.specs.declared.PayloadRead.{PayloadRead}
 use Rattle.pes_header.specs.Payload.{givenPayload, headerPayload, payloadBytes}
@@ -29,7 +29,7 @@ use Rattle.gather.specs.declared.HeldRead.{HeldRead}
 use Rattle.gather.proofs.HeldRead.{the-type}
 use Rattle.gather.specs.Belongs.{eventBytes, ownPlace, ownBytes}
 use Rattle.gather.specs.Gather.{gathering, emptied, wrongEvent, leavesPacket, wrongGathering, kept, added, next, notGathered, numberOf, Outcome}
-use Rattle.gather.specs.Gather.{outcome, gatherOf, storeOf, givenHeld, notRead, readOf, lying, heldBytes, CallStands, moved}
+use Rattle.gather.specs.Gather.{outcome, gatherOf, storeOf, givenHeld, notRead, readOf, lying, heldBytes, CallStands, rested, appended}
 
 -- ---- which bytes belong to a unit
 
@@ -108,12 +108,15 @@ module _ (g : Gathering) (room : ℕ) where
       pub packet-tested : a ≤ 188 → ltb (188 - a) (g .count) ≡ wrongGathering g room
       packet-tested k = moved-bound a (g .count) 188 k ∙ lies-in-packet
 
-  -- what is known of a state that is not refused, and the other way
+  -- what is known of a state that is not refused
   pub gathering-stands : wrongGathering g room ≡ false → (g .count ≤ room) × (leavesPacket (g .lies) (g .count) ≡ false)
   unfolding wrongGathering
   gathering-stands h =
       let a = neither-holds (ltb room (g .count)) (leavesPacket (g .lies) (g .count)) h in
       (ltb-false room (g .count) (a .0), a .1)
+
+  pub count-inside : wrongGathering g room ≡ false → g .count ≤ room
+  count-inside h = gathering-stands h .0
 
   pub stands-gathering : g .count ≤ room → leavesPacket (g .lies) (g .count) ≡ false → wrongGathering g room ≡ false
   stands-gathering h k = sym (in-store h) ∙ k
@@ -151,60 +154,29 @@ module _ (g : Gathering) (p s : List ℕ) where
   unfolding readOf notRead
   read-done l h e = sym (past-packet-checks p _ l h ∙ rw e)
 
-  pub bytes-refused : (readOf g p s ≡ 0 → ⊥) → [] ≡ heldBytes g p s
-  unfolding heldBytes
-  bytes-refused h = simp (ne-eqb (readOf g p s) 0 h)
-
   pub bytes-are : (l : Lies) (r : List ℕ) → readOf g p s ≡ 0 → g .lies ≡ l → r ≡ lying l (g .count) p s → r ≡ heldBytes g p s
   unfolding heldBytes
   bytes-are l r z e h = simp (eq-eqb (readOf g p s) 0 z, e) h
 
-pub held-refusal : (r : HeldRead) → OneOf (1 ∷ 2 ∷ 3 ∷ []) (tagOf the-type r) → givenHeld r ≡ 0 → ⊥
+held-refusal : (r : HeldRead) → OneOf (1 ∷ 2 ∷ 3 ∷ []) (tagOf the-type r) → givenHeld r ≡ 0 → ⊥
 held-refusal HeldRead.Done k z = miss (1 ∷ 2 ∷ 3 ∷ []) 0 tt k
 held-refusal HeldRead.WrongLength k z = omega arith
 held-refusal HeldRead.NoSync k z = omega arith
 held-refusal HeldRead.OutOfRange k z = omega arith
 
--- ---- the state after an event
+-- by what their reading says
+module _ (g : Gathering) (p s : List ℕ) (r : HeldRead) (h : givenHeld r ≡ readOf g p s) where
+  pub bytes-refused : OneOf (1 ∷ 2 ∷ 3 ∷ []) (tagOf the-type r) → [] ≡ heldBytes g p s
+  unfolding heldBytes
+  bytes-refused k = simp (ne-eqb (readOf g p s) 0 (λ z. held-refusal r k (h ∙ z)))
 
-module _ (g : Gathering) (k n a : ℕ) where
-  pub moved-start : k ≡ 1 → g ≡ moved g k n a
-  unfolding moved
-  moved-start e = simp e
+  pub bytes-packet : (a : ℕ) (x : List ℕ) → r ≡ HeldRead.Done → g .lies ≡ Packet a → x ≡ partAt a (g .count) p → x ≡ heldBytes g p s
+  bytes-packet a x d e f = bytes-are g p s (Packet a) x (sym h ∙ ap givenHeld d) e f
 
-  pub moved-begin : k ≡ 2 → gathering true n (Packet a) ≡ moved g k n a
-  unfolding moved
-  moved-begin e = simp e
-
-  pub moved-continue : k ≡ 3 → gathering (g .opened) n Store ≡ moved g k n a
-  unfolding moved
-  moved-continue e = simp e
-
-  pub moved-end : k ≡ 4 → gathering false n Store ≡ moved g k n a
-  unfolding moved
-  moved-end e = simp e
-
-  pub moved-break : (k ≡ 1 → ⊥) × (k ≡ 2 → ⊥) × (k ≡ 3 → ⊥) × (k ≡ 4 → ⊥) → emptied ≡ moved g k n a
-  unfolding moved
-  moved-break h = simp (ne-eqb k 1 (h .0), ne-eqb k 2 (h .1), ne-eqb k 3 (h .2), ne-eqb k 4 (h .3))
-
-  pub moved-open : (k ≡ 3) × (g .opened ≡ true) → gathering true n Store ≡ moved g k n a
-  moved-open h = ap (λ (o : Bool). gathering o n Store) (sym (h .1)) ∙ moved-continue (h .0)
-
-  -- an end, and a continue where no unit is open
-  pub moved-closed : (3 ≤ k) × (k ≤ 4) → (k ≡ 3 → g .opened ≡ false) → gathering false n Store ≡ moved g k n a
-  moved-closed h f = go (eqb k 3) refl
-    where
-      go : (t : Bool) → eqb k 3 ≡ t → gathering false n Store ≡ moved g k n a
-      go true e = let q = eqb-true k 3 e in ap (λ (o : Bool). gathering o n Store) (sym (f q)) ∙ moved-continue q
-      go false e = moved-end (omega (arith, eqb-false k 3 e))
+  pub bytes-store : (x : List ℕ) → r ≡ HeldRead.Done → g .lies ≡ Store → x ≡ partAt 0 (g .count) s → x ≡ heldBytes g p s
+  bytes-store x d e f = bytes-are g p s Store x (sym h ∙ ap givenHeld d) e f
 
 -- ---- the bytes that an event adds
-
--- so many bytes stay, and a place and a length in the packet are those of the bytes that an event adds
-abbrev Adds : Gathering → List ℕ → Event → ℕ → ℕ → ℕ → Type 0
-Adds g p e k a n =
-    (k ≡ kept g e) × (partAt a n p ≡ added g p e) × (a + n ≤ 188) × (e .kind ≡ 2 → a ≡ e .place + ownPlace (eventBytes p e))
 
 module _ (g : Gathering) (e : Event) where
   pub kept-begin : e .kind ≡ 2 → kept g e ≡ 0
@@ -220,14 +192,43 @@ module _ (g : Gathering) (e : Event) where
       go true = omega arith
       go false = omega arith
 
--- a continue of an open unit
-pub extends-true : (k : ℕ) (o : Bool) → pick (eqb k 3) o false ≡ true → (k ≡ 3) × (o ≡ true)
-extends-true k o h = let a = both (eqb k 3) o h in (eqb-true k 3 (a .0), a .1)
+-- a part of a packet, as the borrow checker has it
+abbrev cut : ℕ → ℕ → List ℕ → List ℕ
+cut a n p = take (a + n - a) (drop a p)
 
 -- the bytes that an event names are a part of its packet
 pub event-part : (p : List ℕ) (e : Event) → length p ≡ 188 → e .place + e .length ≤ 188 → eventBytes p e ≡ partAt (e .place) (e .length) p
 unfolding eventBytes
 event-part p e l h = part-in (e .place) (e .length) p (omega arith)
+
+module _ (p : List ℕ) (e : Event) (l : length p ≡ 188) (i : wrongEvent e ≡ false) where
+  named : cut (e .place) (e .length) p ≡ eventBytes p e
+  named = part-cut (e .place) (e .length) p (omega (arith, part-inside e i)) ∙ sym (event-part p e l (part-inside e i))
+
+  named-length : length (cut (e .place) (e .length) p) ≡ e .length
+  named-length =
+      ap length (part-cut (e .place) (e .length) p (omega (arith, part-inside e i)))
+      ∙ part-length (e .place) (e .length) p (omega (arith, part-inside e i))
+
+  pub named-end : e .place + e .length ≤ length p
+  named-end = omega (arith, part-inside e i)
+
+  pub named-short : length (cut (e .place) (e .length) p) ≤ 188
+  named-short = omega (arith, named-length, part-inside e i)
+
+  -- those of a begin that belong to its unit
+  module _ (a n : ℕ) (w : a + n ≤ length (cut (e .place) (e .length) p)) where
+    pub own-end : e .place + a + n ≤ length p
+    own-end = omega (arith, named-length, part-inside e i)
+
+    pub own-short : length (cut (e .place + a) n p) ≤ 188
+    own-short = omega (arith, own-end, ap length (part-cut (e .place + a) n p own-end), part-length (e .place + a) n p own-end)
+
+    own-named : partAt a n (cut (e .place) (e .length) p) ≡ ownBytes (cut (e .place) (e .length) p) → cut (e .place + a) n p ≡ ownBytes (eventBytes p e)
+    own-named f =
+        part-cut (e .place + a) n p own-end
+        ∙ (sym (part-of-part (e .place) (e .length) a n p named-end (omega (arith, named-length)))
+        ∙ (ap (partAt a n) (sym (part-cut (e .place) (e .length) p named-end)) ∙ (f ∙ ap ownBytes named)))
 
 module _ (g : Gathering) (p : List ℕ) (e : Event) where
   pub added-begin : e .kind ≡ 2 → ownBytes (eventBytes p e) ≡ added g p e
@@ -247,37 +248,100 @@ module _ (g : Gathering) (p : List ℕ) (e : Event) where
   added-none h k = simp (ne-eqb (e .kind) 2 h, ne-eqb (e .kind) 3 k)
 
   -- neither a begin nor a continue of an open unit
-  pub added-rest : (e .kind ≡ 2 → ⊥) → pick (eqb (e .kind) 3) (g .opened) false ≡ false → [] ≡ added g p e
+  added-rest : (e .kind ≡ 2 → ⊥) → (e .kind ≡ 3 → g .opened ≡ false) → [] ≡ added g p e
   added-rest b z = go (eqb (e .kind) 3) refl
     where
       go : (t : Bool) → eqb (e .kind) 3 ≡ t → [] ≡ added g p e
-      go true f = let k = eqb-true (e .kind) 3 f in added-closed k (not-both (eqb (e .kind) 3) (g .opened) z f)
+      go true f = let k = eqb-true (e .kind) 3 f in added-closed k (z k)
       go false f = added-none b (eqb-false (e .kind) 3 f)
 
-  module _ (l : length p ≡ 188) (i : wrongEvent e ≡ false) where
-    -- as the borrow checker has the bytes of a begin
-    pub adds-begin : (a n : ℕ) → e .kind ≡ 2 → Own (take (e .place + e .length - e .place) (drop (e .place) p)) a n
-        → Adds g p e 0 (e .place + a) n
-    adds-begin a n k h =
-        let xs = take (e .place + e .length - e .place) (drop (e .place) p) in
-        let x : xs ≡ partAt (e .place) (e .length) p = part-cut (e .place) (e .length) p (omega (arith, part-inside e i)) in
-        let f : xs ≡ eventBytes p e = x ∙ sym (event-part p e l (part-inside e i)) in
-        let m : length xs ≡ e .length = rw x (part-length (e .place) (e .length) p (omega (arith, part-inside e i))) in
-        let b : partAt a n xs ≡ added g p e = h .1 ∙ (ap ownBytes f ∙ added-begin k) in (
-          sym (kept-begin g e k),
-          sym (part-of-part (e .place) (e .length) a n p (omega (arith, part-inside e i)) (omega arith)) ∙ (ap (partAt a n) (sym x) ∙ b),
-          omega (arith, part-inside e i),
-          λ z. ap (λ (t : ℕ). e .place + t) (h .0 ∙ ap ownPlace f),
-        )
+  -- the state after it
+  pub next-start : e .kind ≡ 1 → next g p e ≡ g
+  unfolding next
+  next-start k = simp k
 
-    pub adds-open : (e .kind ≡ 3) × (g .opened ≡ true) → Adds g p e (g .count) (e .place) (e .length)
-    adds-open h =
-        let k : e .kind ≡ 3 = h .0 in (
-          sym (kept-other g e (λ z. omega arith)),
-          sym (event-part p e l (part-inside e i)) ∙ added-open k (h .1),
-          part-inside e i,
-          λ z. absurd (omega arith),
-        )
+  pub next-begin : e .kind ≡ 2 → next g p e ≡ gathering true (length (ownBytes (eventBytes p e))) (Packet (e .place + ownPlace (eventBytes p e)))
+  unfolding next
+  next-begin k = simp (k, ← added-begin k)
+
+  pub next-continue : e .kind ≡ 3 → next g p e ≡ gathering (g .opened) (g .count + length (added g p e)) Store
+  unfolding next
+  next-continue k = simp k
+
+  pub next-end : e .kind ≡ 4 → next g p e ≡ gathering false (g .count) Store
+  unfolding next
+  next-end k = simp k
+
+  pub next-break : e .kind ≡ 5 → next g p e ≡ emptied
+  unfolding next
+  next-break k = simp k
+
+-- where it adds nothing
+module _ (g : Gathering) (k : ℕ) where
+  pub rest-start : k ≡ 1 → g ≡ rested g k
+  unfolding rested
+  rest-start e = simp e
+
+  pub rest-break : (g′ : Gathering) → k ≡ 5 → g′ ≡ emptied → g′ ≡ rested g k
+  unfolding rested
+  rest-break g′ e f = simp e f
+
+  pub rest-closed : (g′ : Gathering) → (k ≡ 1 → ⊥) → (k ≡ 5 → ⊥) → g′ ≡ gathering false (g .count) Store → g′ ≡ rested g k
+  unfolding rested
+  rest-closed g′ a b f = simp (ne-eqb k 1 a, ne-eqb k 5 b) f
+
+module _ (g : Gathering) (p : List ℕ) (e : Event) (i : wrongEvent e ≡ false) (b : e .kind ≡ 2 → ⊥) (z : e .kind ≡ 3 → g .opened ≡ false) where
+  rested-next : rested g (e .kind) ≡ next g p e
+  rested-next = go (eqb (e .kind) 1) refl (eqb (e .kind) 3) refl (eqb (e .kind) 4) refl
+    where
+      go : (t₁ : Bool) → eqb (e .kind) 1 ≡ t₁ → (t₃ : Bool) → eqb (e .kind) 3 ≡ t₃ → (t₄ : Bool) → eqb (e .kind) 4 ≡ t₄
+          → rested g (e .kind) ≡ next g p e
+      go true f₁ t₃ f₃ t₄ f₄ = let k = eqb-true (e .kind) 1 f₁ in sym (rest-start g (e .kind) k) ∙ sym (next-start g p e k)
+      go false f₁ true f₃ t₄ f₄ =
+          let k = eqb-true (e .kind) 3 f₃ in
+          let c : g .count + 0 ≡ g .count = omega arith in
+          sym (rest-closed g (e .kind) _ (λ y. omega arith) (λ y. omega arith) refl)
+          ∙ sym (next-continue g p e k ∙ rw (← added-rest g p e b z, z k, c))
+      go false f₁ false f₃ true f₄ =
+          let k = eqb-true (e .kind) 4 f₄ in
+          sym (rest-closed g (e .kind) _ (λ y. omega arith) (λ y. omega arith) refl) ∙ sym (next-end g p e k)
+      go false f₁ false f₃ false f₄ =
+          let no = eqb-false (e .kind) in
+          let k : e .kind ≡ 5 = omega (arith, no 1 f₁, no 3 f₃, no 4 f₄, event-stands e i) in
+          sym (rest-break g (e .kind) emptied k refl) ∙ sym (next-break g p e k)
+
+-- ---- what the functions of a call say
+
+-- a continue of an open unit
+module _ (k : ℕ) (o : Bool) where
+  pub extends-not : (k ≡ 3 → ⊥) → false ≡ pick (eqb k 3) o false
+  extends-not h = simp (ne-eqb k 3 h)
+
+  pub extends-open : k ≡ 3 → o ≡ pick (eqb k 3) o false
+  extends-open h = simp h
+
+pub full-is : (g′ : Gathering) → g′ ≡ emptied → outcome 20 g′ ≡ outcome 20 emptied
+full-is g′ e = ap (outcome 20) e
+
+module _ (k : ℕ) (l : Lies) (xs s : List ℕ) (o : Outcome) where
+  pub appended-full : k ≤ length s → length s - k < length xs → o ≡ outcome 20 emptied → o ≡ appended k l xs s
+  unfolding appended
+  appended-full i h e = simp (lt-leb (k + length xs) (length s) (omega arith)) e
+
+  pub appended-done : k ≤ length s → length xs ≤ length s - k → o ≡ outcome 0 (gathering true (k + length xs) l) → o ≡ appended k l xs s
+  unfolding appended
+  appended-done i h e = simp (le-leb (k + length xs) (length s) (omega arith)) e
+
+module _ (k : ℕ) (xs s : List ℕ) where
+  pub none-placed : k ≤ length s → length s - k < length xs → s ≡ placedAt s k xs
+  none-placed i h = placed-out s k xs (omega arith)
+
+  -- by way of an array
+  pub front-length : (d x : List ℕ) → length xs ≤ length d → x ≡ placedAt d 0 xs → length xs ≡ length (take (length xs) x)
+  front-length d x h e = sym (ap length (front d x xs h e))
+
+  pub front-placed : (d x s′ : List ℕ) → length xs ≤ length d → x ≡ placedAt d 0 xs → s′ ≡ placedAt s k (take (length xs) x) → s′ ≡ placedAt s k xs
+  front-placed d x s′ h e f = f ∙ ap (placedAt s k) (front d x xs h e)
 
 -- ---- a call
 
@@ -309,35 +373,6 @@ module _ (g : Gathering) (p : List ℕ) (e : Event) (s : List ℕ) where
       unfolding numberOf notGathered
       bad-gathering h k = refused 14 (past-packet-checks p _ l y ∙ rw (h, k)) refl refl
 
-  -- the state after it is one, by the bytes that the unit then has
-  pub moved-next : (a : ℕ) → (e .kind ≡ 2 → a ≡ e .place + ownPlace (eventBytes p e))
-      → moved g (e .kind) (kept g e + length (added g p e)) a ≡ next g p e
-  unfolding moved next
-  moved-next a h = go (eqb (e .kind) 1) (eqb (e .kind) 2) refl (eqb (e .kind) 3) refl (eqb (e .kind) 4) refl
-    where
-      m : ℕ
-      m = length (added g p e)
-
-      go : (t₁ t₂ : Bool) → eqb (e .kind) 2 ≡ t₂ → (t₃ : Bool) → eqb (e .kind) 3 ≡ t₃ → (t₄ : Bool) → eqb (e .kind) 4 ≡ t₄
-          → pick t₁ g (pick t₂ (gathering true (kept g e + m) (Packet a))
-          (pick t₃ (gathering (g .opened) (kept g e + m) Store) (pick t₄ (gathering false (kept g e + m) Store) emptied)))
-          ≡ pick t₁ g (pick t₂ (gathering true m (Packet (e .place + ownPlace (eventBytes p e))))
-          (pick t₃ (gathering (g .opened) (g .count + m) Store) (pick t₄ (gathering false (g .count) Store) emptied)))
-      go true t₂ f₂ t₃ f₃ t₄ f₄ = refl
-      go false true f₂ t₃ f₃ t₄ f₄ =
-          let k : e .kind ≡ 2 = eqb-true (e .kind) 2 f₂ in
-          let c : kept g e + m ≡ m = omega (arith, kept-begin g e k) in
-          rw (c, h k)
-      go false false f₂ true f₃ t₄ f₄ =
-          let k : e .kind ≡ 3 = eqb-true (e .kind) 3 f₃ in
-          rw (kept-other g e (λ z. omega arith))
-      go false false f₂ false f₃ true f₄ =
-          let k : e .kind ≡ 4 = eqb-true (e .kind) 4 f₄ in
-          let n = added-none g p e (λ z. omega arith) (λ z. omega arith) in
-          let c : kept g e + m ≡ g .count = simp (← n) (omega (arith, kept-other g e (λ z. omega arith))) in
-          rw c
-      go false false f₂ false f₃ false f₄ = refl
-
   module _ (h : CallStands g p e s) where
     number-full : length s < kept g e + length (added g p e) → numberOf g p e s ≡ 20
     unfolding numberOf notGathered
@@ -359,40 +394,67 @@ module _ (g : Gathering) (p : List ℕ) (e : Event) (s : List ℕ) where
   unfolding gatherOf storeOf
   taken g′ s′ z f k = simp z (ap (outcome 0) f, k)
 
-  -- the same as the code has it: an event that adds nothing
-  pub apply-none : CallStands g p e s → (e .kind ≡ 2 → ⊥) → [] ≡ added g p e → (o : Outcome) (g′ : Gathering) → o ≡ outcome 0 g′
-      → g′ ≡ moved g (e .kind) (g .count) 0
-      → Meets g p e s o s
-  apply-none h b j o g′ y m =
-      let l : g .count ≤ length s = gathering-stands g (length s) (h .3) .0 in
-      let c : kept g e + length (added g p e) ≡ g .count = rw (← j) (omega (arith, kept-other g e b)) in
-      let n = ap (λ (n : ℕ). moved g (e .kind) n 0) (sym c) ∙ moved-next 0 (λ z. absurd (b z)) in
-      let t = taken g′ s (number-done h (omega arith)) (m ∙ n) (rw (← j) (placed-none s (kept g e))) in
-      (y ∙ t .0, t .1)
+  -- bytes that are kept and bytes that are added
+  meets : CallStands g p e s → (l : Lies) (k : ℕ) (xs : List ℕ) → k ≡ kept g e → xs ≡ added g p e → gathering true (k + length xs) l ≡ next g p e
+      → Meets g p e s (appended k l xs s) (placedAt s k xs)
+  unfolding appended
+  meets h l k xs d x y = go (leb (k + length xs) (length s)) refl (rw (d, x))
+    where
+      go : (t : Bool) → leb (k + length xs) (length s) ≡ t → k + length xs ≡ kept g e + length (added g p e)
+          → Meets g p e s (pick t (outcome 0 (gathering true (k + length xs) l)) (outcome 20 emptied)) (placedAt s k xs)
+      go true f r = taken _ _ (number-done h (omega (arith, leb-true (k + length xs) (length s) f))) y (rw (d, x))
+      go false f r =
+          let c = leb-false (k + length xs) (length s) f in
+          let m = full h (omega arith) in
+          (m .0, sym (placed-out s k xs c) ∙ m .1)
 
-  -- bytes that are kept and a part that is added, where there is room for it
-  module _ (h : CallStands g p e s) (k a n : ℕ) (d : Adds g p e k a n) (xs s′ : List ℕ) (x : xs ≡ partAt a n p) (b : Bool)
-      (r : (b ≡ leb (k + length xs) (length s)) × (s′ ≡ placedAt s k xs)) where
-    part-size : length xs ≡ n
-    part-size = ap length x ∙ part-length a n p (omega arith)
+  -- an event that is not refused with 14, by how the code asks for it: an outcome and a store's bytes that are as said are those of the call
+  module _ (h : CallStands g p e s) where
+    module _ (r : Bool) (t : r ≡ pick (eqb (e .kind) 3) (g .opened) false) where
+      meets-none : r ≡ false → (e .kind ≡ 2 → ⊥) → (g′ : Gathering) → g′ ≡ rested g (e .kind) → Meets g p e s (outcome 0 g′) s
+      meets-none f b g′ m =
+          let z : e .kind ≡ 3 → g .opened ≡ false = λ k. not-both (eqb (e .kind) 3) (g .opened) (sym t ∙ f) (eq-eqb (e .kind) 3 k) in
+          let j = added-rest g p e b z in
+          let c : kept g e + length (added g p e) ≤ length s = rw (← j) (omega (arith, kept-other g e b, count-inside g (length s) (h .3))) in
+          taken g′ s (number-done h c) (m ∙ rested-next g p e (h .2) b z) (rw (← j) (placed-none s (kept g e)))
 
-    added-size : length (added g p e) ≡ n
-    added-size = ap length (sym (d .1)) ∙ part-length a n p (omega arith)
+      pub none-outcome : (o : Outcome) (g′ : Gathering) → r ≡ false → (e .kind ≡ 2 → ⊥) → g′ ≡ rested g (e .kind) → o ≡ outcome 0 g′ → o ≡ gatherOf g p e s
+      none-outcome o g′ f b m y = y ∙ meets-none f b g′ m .0
 
-    pub room : b ≡ true → k + n ≤ length s
-    room z = omega (arith, part-size, leb-true (k + length xs) (length s) (sym (r .0) ∙ z))
+      pub none-store : r ≡ false → (e .kind ≡ 2 → ⊥) → s ≡ storeOf g p e s
+      none-store f b = meets-none f b (rested g (e .kind)) refl .1
 
-    pub apply-full : (o : Outcome) → o ≡ outcome 20 emptied → b ≡ false → Meets g p e s o s′
-    apply-full o i z =
-        let t : length s < k + length xs = leb-false (k + length xs) (length s) (sym (r .0) ∙ z) in
-        let m = full h (omega (arith, added-size, part-size)) in
-        (i ∙ m .0, r .1 ∙ (sym (placed-out s k xs t) ∙ m .1))
+      meets-open : r ≡ true
+          → Meets g p e s (appended (g .count) Store (cut (e .place) (e .length) p) s) (placedAt s (g .count) (cut (e .place) (e .length) p))
+      meets-open f =
+          let a = both (eqb (e .kind) 3) (g .opened) (sym t ∙ f) in
+          let k = eqb-true (e .kind) 3 (a .0) in
+          let x : cut (e .place) (e .length) p ≡ added g p e = named p e (h .0) (h .2) ∙ added-open g p e k (a .1) in
+          meets h Store _ _ (sym (kept-other g e (λ z. omega arith))) x (sym (next-continue g p e k ∙ rw (← x, a .1)))
 
-    pub apply-done : (o : Outcome) (g′ : Gathering) (c : ℕ) → o ≡ outcome 0 g′ → b ≡ true → c ≡ k + n → g′ ≡ moved g (e .kind) c a
-        → Meets g p e s o s′
-    apply-done o g′ c y z i m =
-        let n : moved g (e .kind) c a ≡ next g p e = rw (i, d .0, ← added-size) (moved-next a (d .3)) in
-        let t = taken g′ s′ (number-done h (omega (arith, added-size, room z))) (m ∙ n) (r .1 ∙ rw (d .0, x, d .1)) in
-        (y ∙ t .0, t .1)
+      pub open-outcome : (o : Outcome) → r ≡ true → o ≡ appended (g .count) Store (cut (e .place) (e .length) p) s → o ≡ gatherOf g p e s
+      open-outcome o f i = i ∙ meets-open f .0
 
-pub ruleset gather-laws = (kind-none, kind-past, part-tested, past-store, lies-in-store, past-packet, packet-tested, read-length, read-sync, read-out, read-done, tested, needs)
+      pub open-store : (s′ : List ℕ) → r ≡ true → s′ ≡ placedAt s (g .count) (cut (e .place) (e .length) p) → s′ ≡ storeOf g p e s
+      open-store s′ f i = i ∙ meets-open f .1
+
+    module _ (a n : ℕ) (k : e .kind ≡ 2) (w : Own (cut (e .place) (e .length) p) a n) where
+      meets-begin : Meets g p e s (appended 0 (Packet (e .place + a)) (cut (e .place + a) n p) s) (placedAt s 0 (cut (e .place + a) n p))
+      meets-begin =
+          let f = named p e (h .0) (h .2) in
+          let x = own-named p e (h .0) (h .2) a n (w .2) (w .1) in
+          let z : 0 + length (ownBytes (eventBytes p e)) ≡ length (ownBytes (eventBytes p e)) = omega arith in
+          meets h (Packet (e .place + a)) _ _ (sym (kept-begin g e k)) (x ∙ added-begin g p e k) (sym (next-begin g p e k ∙ rw (x, z, w .0, f)))
+
+      pub begin-outcome : (o : Outcome) → o ≡ appended 0 (Packet (e .place + a)) (cut (e .place + a) n p) s → o ≡ gatherOf g p e s
+      begin-outcome o i = i ∙ meets-begin .0
+
+      pub begin-store : (s′ : List ℕ) → s′ ≡ placedAt s 0 (cut (e .place + a) n p) → s′ ≡ storeOf g p e s
+      begin-store s′ i = i ∙ meets-begin .1
+
+-- those of an event that is not refused, so that `search` has less to compare
+pub ruleset apply-laws = (named-end, named-short, count-inside, own-end, own-short, needs)
+
+pub ruleset call-laws = (none-outcome, none-store, open-outcome, open-store, begin-outcome, begin-store, needs)
+
+pub ruleset gather-laws = (kind-none, kind-past, part-tested, past-store, lies-in-store, past-packet, packet-tested, read-length, read-sync, read-out, read-done, bytes-refused, bytes-packet, bytes-store, rest-start, rest-break, rest-closed, extends-not, extends-open, full-is, appended-full, appended-done, none-placed, front-length, front-placed, tested, needs)

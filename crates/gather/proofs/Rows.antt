@@ -7,6 +7,7 @@ use Prim.Native.Nat.{ℕ, _≤_, _<_}
 use native.Mathlib.Omega.{arith}
 use lib.ListN.{getD}
 use lib.Dec.{eqb, ltb, leb}
+use borrow.Author.Needs.{needs}
 use borrow.Author.Tests.{lt-ltb, le-ltb, ne-eqb}
 use Rattle.bits.specs.Answer.{pick, truth}
 use Rattle.gather.specs.declared.Lies.{Lies}
@@ -16,6 +17,13 @@ use Rattle.gather.specs.declared.row.RowRead.{RowRead}
 use Rattle.gather.specs.declared.row.RowRead.the-variants.{Is, Stray}
 use Rattle.gather.specs.Gather.{gathering}
 use Rattle.gather.specs.Row.{liesOf, liesNumber, gatheringOf, rowOf}
+
+module _ (n : ℕ) where
+  pub lies-store : n ≡ 255 → Store ≡ liesOf n
+  lies-store e = simp e
+
+  pub lies-packet : (n ≡ 255 → ⊥) → Packet n ≡ liesOf n
+  lies-packet h = simp (ne-eqb n 255 h)
 
 module _ (xs : List ℕ) where
   pub stray-open : 1 < getD xs 0 0 → Stray ≡ gatheringOf xs
@@ -29,6 +37,8 @@ module _ (xs : List ℕ) where
 pub row-is : (g : Gathering) (a : ℕ) → a ≡ liesNumber (g .lies) → truth (g .opened) ∷ g .count ∷ a ∷ [] ≡ rowOf g
 unfolding rowOf
 row-is g a e = rw e
+
+pub ruleset row-laws = (lies-store, lies-packet, stray-open, row-stands, row-is, needs)
 
 -- ---- a row reads back
 

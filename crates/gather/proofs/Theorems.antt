@@ -30,7 +30,7 @@ use Rattle.gather.specs.Units.{unitBytes, lastOf}
 use Rattle.machine.specs.Run.{IsPacket}
 use Rattle.gather.specs.Units.{Inside, GatheringStands, Kind, Known, NoBegin, Taken, Open}
 use Rattle.gather.proofs.Laws.{part-tested, stands-gathering, gathering-stands, read-done, bytes-are, event-part, added-begin, added-open}
-use Rattle.gather.proofs.Laws.{added-closed, added-none, kept-begin, kept-other, number-done, full, taken}
+use Rattle.gather.proofs.Laws.{added-closed, added-none, kept-begin, kept-other, next-start, next-begin, next-continue, next-end, next-break, number-done, full, taken}
 
 -- ---- one answer only: any two answers that meet a function's promise are equal
 
@@ -161,27 +161,6 @@ module _ (ps : List (List ℕ)) (all : All IsPacket ps) (t : Standing) (e : Even
       let z = number-done (t .gathering) (packetOf ps e) e (t .store) possible room in
       let q = taken (t .gathering) (packetOf ps e) e (t .store) _ _ z refl refl in
       (ap (λ (o : Outcome). o .number) (sym (q .0)), rw (← q .0, ← q .1))
-
-module _ (g : Gathering) (p : List ℕ) (e : Event) where
-  next-start : Kind 1 e → next g p e ≡ g
-  unfolding next
-  next-start k = simp k
-
-  next-begin : Kind 2 e → next g p e ≡ gathering true (length (ownBytes (eventBytes p e))) (Packet (e .place + ownPlace (eventBytes p e)))
-  unfolding next
-  next-begin k = simp (k, ← added-begin g p e k)
-
-  next-continue : Kind 3 e → next g p e ≡ gathering (g .opened) (g .count + length (added g p e)) Store
-  unfolding next
-  next-continue k = simp k
-
-  next-end : Kind 4 e → next g p e ≡ gathering false (g .count) Store
-  unfolding next
-  next-end k = simp k
-
-  next-break : Kind 5 e → next g p e ≡ emptied
-  unfolding next
-  next-break k = simp k
 
 -- reading out of the store
 read-store : (p s u : List ℕ) (o : Bool) → IsPacket p → length u ≤ length s → take (length u) s ≡ u

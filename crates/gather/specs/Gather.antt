@@ -3,7 +3,7 @@ use mathlib.Core.Path.{_≡_}
 use mathlib.Core.Bool.{Bool, true, false, _||_}
 use mathlib.Core.List.{List, [], _∷_, _++_}
 use Prim.Native.Nat.{ℕ, _+_}
-use lib.Dec.{eqb, ltb}
+use lib.Dec.{eqb, leb, ltb}
 use lib.ListN.{length, getD}
 use Rattle.bits.specs.Answer.{pick, Check, _gives_, firstOf, placedAt, partAt}
 use Rattle.bits.specs.Numbers.{done, wrongLength, noSync, outOfRange, storeFull}
@@ -137,11 +137,10 @@ heldBytes g p s = pick (eqb (readOf g p s) done) (lying (g .lies) (g .count) p s
 abbrev pub CallStands : Gathering → List ℕ → Event → List ℕ → Type 0
 CallStands g p e s = (length p ≡ 188) × (getD p 0 0 ≡ 0x47) × (wrongEvent e ≡ false) × (wrongGathering g (length s) ≡ false)
 
--- the state after an event of a kind, by the unit's bytes with those that are added, and the place in the packet where these stand
-unfoldable pub moved : Gathering → ℕ → ℕ → ℕ → Gathering
-moved g k n a =
-    pick (eqb k startStream) g
-    (pick (eqb k beginPacket) (gathering true n (Packet a))
-    (pick (eqb k continuePacket) (gathering (g .opened) n Store)
-    (pick (eqb k endPacket) (gathering false n Store)
-    emptied)))
+-- the state after an event of a kind that adds nothing
+unfoldable pub rested : Gathering → ℕ → Gathering
+rested g k = pick (eqb k startStream) g (pick (eqb k continuityError) emptied (gathering false (g .count) Store))
+
+-- so many bytes that stay and those that are added: an open unit, or 20
+unfoldable pub appended : ℕ → Lies → List ℕ → List ℕ → Outcome
+appended k l xs s = pick (leb (k + length xs) (length s)) (outcome done (gathering true (k + length xs) l)) (outcome storeFull emptied)

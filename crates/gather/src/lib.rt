@@ -2,14 +2,15 @@
 ghost use mathlib.Core.Path.{_≡_};
 ghost use mathlib.Core.Bool.{false};
 ghost use Prim.Native.Nat.{_+_, _≤_};
-ghost use lib.Dec.{eqb, leb};
+ghost use lib.Dec.{eqb};
 ghost use lib.ListN.{length};
 ghost use Rattle.bits.specs.Answer.{pick, partAt, placedAt};
 ghost use Rattle.bits.specs.Numbers.{done, storeFull};
-ghost use Rattle.log.specs.Entry.{beginPacket, continuePacket};
+ghost use Rattle.log.specs.Entry.{continuePacket};
 ghost use Rattle.gather.specs.Belongs.{ownPlace, ownBytes};
-ghost use Rattle.gather.specs.Gather.{gathering, emptied, wrongEvent, wrongGathering, CallStands, moved};
+ghost use Rattle.gather.specs.Gather.{gathering, emptied, wrongEvent, wrongGathering, CallStands, rested, appended};
 ghost use Rattle.gather.specs.Gather.{outcome, given, gatherOf, storeOf, readOf, givenHeld, heldBytes};
+use bits::copy_at;
 use bits::part;
 use log::BEGIN_PACKET;
 use log::CONTINUE_PACKET;
@@ -138,8 +139,7 @@ fn closed(count: usize) -> Gathering
 
 // The state after an event that adds nothing: any but a begin, and a continue only where no unit is open.
 fn rests(g: Gathering, kind: u8) -> Gathering
-    requires { ⌜ (1 ≤ kind) × (kind ≤ 5) × (kind ≡ beginPacket → ⊥) × (kind ≡ continuePacket → g .opened ≡ false) ⌝ }
-    ensures { λ r. ⌜ r ≡ moved g kind (g .count) 0 ⌝ }
+    ensures { λ r. ⌜ r ≡ rested g kind ⌝ }
 {
     if kind == START_STREAM {
         return g;
@@ -148,30 +148,6 @@ fn rests(g: Gathering, kind: u8) -> Gathering
         return closed(0);
     }
     closed(g.count)
-}
-
-// Bytes of a packet into the store behind those that stay, and whether there was room for them. For the compiler two slices of a
-// caller may be one memory, which it would copy in small pieces: by way of an array of its own it is one move.
-fn appends(from: &[u8], store: &mut [u8], kept: usize) -> bool
-    requires { ⌜ (length (now from) ≤ 188) × (kept ≤ length (now store)) ⌝ }
-    ensures { λ r. ⌜ (r ≡ leb (kept + length (now (from .entry))) (length (now (store .entry))))
-        × (now (store .exit) ≡ placedAt (now (store .entry)) kept (now (from .entry))) ⌝ }
-{
-    if store.len() - kept < from.len() {
-        return false;
-    }
-    let mut image = [0u8; 188];
-    let mut i = 0;
-    while i < from.len() {
-        image[i] = from[i];
-        i += 1;
-    }
-    let mut j = 0;
-    while j < from.len() {
-        store[kept + j] = image[j];
-        j += 1;
-    }
-    true
 }
 
 // Whether an event of a kind adds all the bytes that it names: a continue where a unit is open.
@@ -204,7 +180,28 @@ fn accepted(gathering: Gathering) -> Gathered
     }
 }
 
-// An event that can be: 20 is what is left to refuse it.
+// Bytes of a packet into the store behind those that stay, and the open unit that then has them; 20 where there is no room for them. For
+// the compiler two slices of a caller may be one memory, which it would copy in small pieces: by way of an array of its own it is one move.
+fn appends(from: &[u8], store: &mut [u8], kept: usize, lies: Lies) -> Gathered
+    requires { ⌜ (length (now from) ≤ 188) × (kept ≤ length (now store)) ⌝ }
+    ensures { λ r. ⌜ (given r ≡ appended kept lies (now (from .entry)) (now (store .entry)))
+        × (now (store .exit) ≡ placedAt (now (store .entry)) kept (now (from .entry))) ⌝ }
+{
+    if store.len() - kept < from.len() {
+        return full();
+    }
+    let mut image = [0u8; 188];
+    copy_at(from, &mut image, 0);
+    copy_at(&image[..from.len()], store, kept);
+    let count = kept + from.len();
+    accepted(Gathering {
+        opened: true,
+        count,
+        lies,
+    })
+}
+
+// An event that is not refused with 14: 20 is what is left to refuse it.
 fn apply(g: Gathering, packet: &[u8], event: Event, store: &mut [u8]) -> Gathered
     requires { ⌜ CallStands g (now packet) event (now store) ⌝ }
     ensures { λ r. ⌜ (given r ≡ gatherOf g (now (packet .entry)) event (now (store .entry)))
@@ -215,29 +212,13 @@ fn apply(g: Gathering, packet: &[u8], event: Event, store: &mut [u8]) -> Gathere
     let end = place + event.length as usize;
     if extends(g, kind) {
         let kept = g.count;
-        if !appends(&packet[place..end], store, kept) {
-            return full();
-        }
-        let count = kept + event.length as usize;
-        return accepted(Gathering {
-            opened: true,
-            count,
-            lies: Lies::Store,
-        });
+        return appends(&packet[place..end], store, kept, Lies::Store);
     }
     if kind == BEGIN_PACKET {
         let own = own_part(&packet[place..end]);
         let at = place + own.place;
-        let count = own.length;
-        let last = at + count;
-        if !appends(&packet[at..last], store, 0) {
-            return full();
-        }
-        return accepted(Gathering {
-            opened: true,
-            count,
-            lies: Lies::Packet(at),
-        });
+        let last = at + own.length;
+        return appends(&packet[at..last], store, 0, Lies::Packet(at));
     }
     accepted(rests(g, kind))
 }

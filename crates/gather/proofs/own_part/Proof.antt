@@ -1,13 +1,10 @@
-use Rattle.gather.proofs.Laws.{own-refused, own-done}
-use borrow.Author.Needs.{needs}
+use Rattle.gather.proofs.Laws.{own-refused, own-done, gather-laws}
 use Rattle.gather.proofs.own_part.Statement.{statement}
 use Rattle.gather.proofs.own_part.Tie as tie
 
-returns : tie.Need-returns
-returns c = own-refused _ (c .before .payload-at .result) (c .before .payload-at .ensures) (c .match .keys2)
-
-returns-2 : tie.Need-returns-2
-returns-2 c = own-done _ _ (c .before .before .before .payload-at .ensures) _ _ (c .before .place .given .1)
-
 pub own-part-spec : {M : Type 1} → statement M
-own-part-spec = tie.close (tie.spec (λ c κs. search needs) (λ c. search needs) returns returns-2)
+own-part-spec {M} =
+    let answers = tie.spec {M = M} (λ c κs. search gather-laws) (λ c. search gather-laws)
+    (λ c. own-refused _ (c .before .payload-at .result) (search gather-laws) (search gather-laws))
+    (λ c. own-done _ (c .before .before .before .payload-at .result) (search gather-laws) _ _ (search gather-laws)) in
+    tie.close answers

@@ -1,7 +1,8 @@
-use Rattle.gather.proofs.Rows.{row-is}
-use borrow.Author.Needs.{needs}
+use Rattle.gather.proofs.Rows.{row-laws}
 use Rattle.gather.proofs.row.write.Statement.{statement}
 use Rattle.gather.proofs.row.write.Tie as tie
 
 pub write-spec : {M : Type 1} → statement M
-write-spec = tie.close (tie.spec (λ c. search needs) (λ c κs. search needs) (λ c. row-is _ _ (c .before .lies-number .ensures)))
+write-spec {M} =
+    let answers = tie.spec {M = M} (λ c. search row-laws) (λ c κs. search row-laws) (λ c. search row-laws) in
+    tie.close answers
