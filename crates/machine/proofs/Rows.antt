@@ -18,7 +18,6 @@ use Rattle.machine.specs.declared.Phase.the-variants.{Begin, Started, Ig
 use Rattle.machine.specs.declared.Last.{Last}
 use Rattle.machine.specs.declared.Last.the-variants.{Nothing, At}
 use Rattle.machine.specs.declared.Machine.{Machine}
-use Rattle.machine.specs.declared.row.RowRead.{RowRead}
 use Rattle.machine.specs.declared.row.RowRead.the-variants.{Is, Stray}
 use Rattle.machine.specs.Events.{asCounter}
 use Rattle.machine.specs.Step.{wrongLast, notTaken}
