@@ -127,28 +127,19 @@ module _ (f : Rate) (v : ℕ) (e : f ≡ Rate.Present v) where
 pub copy-high : (f : Byte) (v : ℕ) → f ≡ Byte.Present v → leb v 127 ≡ fits 0 127 (byteField f)
 copy-high f v e = rw (e, le-leb 0 v (omega arith))
 
--- the tests of the unit one after another
-chain : (a b c d e f g : Bool) → allOf (a ∷ b ∷ c ∷ d ∷ e ∷ f ∷ g ∷ [])
-    ≡ pick (allOf (a ∷ b ∷ c ∷ [])) (pick d (pick e (pick f g false) false) false) false
-chain false b c d e f g = refl
-chain true false c d e f g = refl
-chain true true false d e f g = refl
-chain true true true false e f g = refl
-chain true true true true false f g = refl
-chain true true true true true false g = refl
-chain true true true true true true true = refl
-chain true true true true true true false = refl
+-- three tests, and what is asked after them
+three : (a b c x : Bool) → pick a (pick b (pick c x false) false) false ≡ pick (allOf (a ∷ b ∷ c ∷ [])) x false
+three true true true x = refl
+three true true false x = refl
+three true false c x = refl
+three false b c x = refl
 
 module _ (u : Unit) where
   unit-chain : allOf (unitTests u)
-      ≡ pick (idTest (u .id) (u .bounded))
-      (pick (timesFit (u .times)) (pick (escrFits (u .escr))
-      (pick (fits 1 (2 ^ 22 - 1) (rateField (u .rate))) (fits 0 127 (byteField (u .copy))) false) false) false) false
+      ≡ pick (idTest (u .id) (u .bounded)) (allOf (timesFit (u .times) ∷ escrFits (u .escr) ∷ fits 1 (2 ^ 22 - 1) (rateField (u .rate)) ∷
+      fits 0 127 (byteField (u .copy)) ∷ [])) false
   unfolding unitTests
-  unit-chain =
-      chain (leb 0xBC (u .id)) (parsedId (u .id)) (pick (u .bounded) true (within 0xE0 0xEF (u .id))) (timesFit (u .times))
-      (escrFits (u .escr))
-      (fits 1 (2 ^ 22 - 1) (rateField (u .rate))) (fits 0 127 (byteField (u .copy)))
+  unit-chain = three (leb 0xBC (u .id)) (parsedId (u .id)) (pick (u .bounded) true (within 0xE0 0xEF (u .id))) _
 
   -- by what each function answers of its field
   module _ (i : Bool) (ie : i ≡ idTest (u .id) (u .bounded)) where
@@ -168,7 +159,8 @@ module _ (u : Unit) where
           unit-rate h = sym (unit-chain ∙ rw (not-taken i _ ie ih, not-taken t _ te th, not-taken x _ xe xh, taken r _ re h))
 
           pub unit-copy : (c : Bool) → not r ≡ false → c ≡ fits 0 127 (byteField (u .copy)) → c ≡ allOf (unitTests u)
-          unit-copy c h ce = ce ∙ sym (unit-chain ∙ rw (not-taken i _ ie ih, not-taken t _ te th, not-taken x _ xe xh, not-taken r _ re h))
+          unit-copy c h ce =
+              ce ∙ (last _ ∙ sym (unit-chain ∙ rw (not-taken i _ ie ih, not-taken t _ te th, not-taken x _ xe xh, not-taken r _ re h)))
 
   -- ---- the sizes
 
@@ -233,6 +225,9 @@ nine-number : (id lh ll p a c o t e r k y z d : ℕ)
     + (t * 2 ^ 14 + (e * 2 ^ 13 + (r * 2 ^ 12 + (k * 2 ^ 11 + (y * 2 ^ 10 + (z * 2 ^ 9 + (0 * 2 ^ 8 + (d * 1 + 0))))))))))))))))
 nine-number id lh ll p a c o t e r k y z d = omega arith
 
+flag-row : {v w : ℕ} → (v ≡ w) × (v ≤ 1) → w % 2 ^ 1 ≡ v
+flag-row h = omega arith
+
 pub head-written : (u : Unit) (n l p a c o t e r k y z d : ℕ) → u .id < 256 → l ≡ statedLength u n → statedLength u n ≤ 65535
     → (p ≡ truth (u .priority)) × (p ≤ 1) → (a ≡ truth (u .alignment)) × (a ≤ 1) → (c ≡ truth (u .copyright)) × (c ≤ 1)
     → (o ≡ truth (u .original)) × (o ≤ 1)
@@ -246,21 +241,12 @@ pub head-written : (u : Unit) (n l p a c o t e r k y z d : ℕ) → u .id < 256 
 head-written u n l p a c o t e r k y z d id le lh ph ah ch oh th eh rh kh yh zh de dh =
     let im : u .id % 2 ^ 8 ≡ u .id = mod-eq-of-lt id in
     let lm : statedLength u n % 2 ^ 16 ≡ l / 256 * 256 + l % 256 = omega arith in
-    let pm : truth (u .priority) % 2 ^ 1 ≡ p = omega arith in
-    let am : truth (u .alignment) % 2 ^ 1 ≡ a = omega arith in
-    let cm : truth (u .copyright) % 2 ^ 1 ≡ c = omega arith in
-    let om : truth (u .original) % 2 ^ 1 ≡ o = omega arith in
     let tm : timesFlags (u .times) % 2 ^ 2 ≡ t = omega arith in
-    let em : escrFlag (u .escr) % 2 ^ 1 ≡ e = omega arith in
-    let rm : fieldFlag (rateField (u .rate)) % 2 ^ 1 ≡ r = omega arith in
-    let km : fieldFlag (byteField (u .trick)) % 2 ^ 1 ≡ k = omega arith in
-    let ym : fieldFlag (byteField (u .copy)) % 2 ^ 1 ≡ y = omega arith in
-    let zm : fieldFlag (crcField (u .crc)) % 2 ^ 1 ≡ z = omega arith in
     let dm : dataOf u % 2 ^ 8 ≡ d = omega arith in
     written (0 ∷ 0 ∷ 1 ∷ u .id ∷ (l / 256) ∷ (l % 256) ∷ (128 + 8 * p + 4 * a + 2 * c + o) ∷
     (64 * t + 32 * e + 16 * r + 8 * k + 4 * y + 2 * z) ∷ d ∷ []) _
     (omega arith) (nine-number (u .id) (l / 256) (l % 256) p a c o t e r k y z d ∙ simp
-    (im, lm, pm, am, cm, om, tm, em, rm, km, ym, zm, dm))
+    (im, lm, flag-row ph, flag-row ah, flag-row ch, flag-row oh, tm, flag-row eh, flag-row rh, flag-row kh, flag-row yh, flag-row zh, dm))
 
 -- ---- the fields placed one after another
 
@@ -341,8 +327,6 @@ module _ (d : List ℕ) (p : ℕ) where
 then : (a : List ℕ) (p : ℕ) (s : List ℕ) (m q : ℕ) (b t : List ℕ) (n r : ℕ) (c : List ℕ) → p + (m + n) ≤ length a
     → Placed a p s m q b → Placed b q t n r c → Placed a p (s ++ t) (m + n) r c
 then a p s m q b t n r c h x y =
-    let ls = x .few in
-    let lt = y .few in
     let l : length (s ++ t) ≡ length s + length t = length-append s t in
     record {
       next = y .next ∙ rw (x .next, l) (omega arith);
@@ -367,14 +351,6 @@ header-made u n ff nine a₁ a₂ a₃ a₄ a₅ a₆ a₇ p₂ p₃ p₄ p₅ p
     let l₃ : length a₃ ≡ 32 = length-after x₂ ∙ l₂ in
     let l₄ : length a₄ ≡ 32 = length-after x₃ ∙ l₃ in
     let l₅ : length a₅ ≡ 32 = length-after x₄ ∙ l₄ in
-    let b₁ = x₁ .next in
-    let b₂ = x₂ .next in
-    let b₃ = x₃ .next in
-    let b₄ = x₄ .next in
-    let f₁ = x₁ .few in
-    let f₂ = x₂ .few in
-    let f₃ = x₃ .few in
-    let f₄ = x₄ .few in
     let y₅ = then a₅ p₅ _ 1 p₆ a₆ _ 2 p₇ a₇ (omega arith) x₅ x₆ in
     let y₄ = then a₄ p₄ _ 1 p₅ a₅ _ 3 p₇ a₇ (omega arith) x₄ y₅ in
     let y₃ = then a₃ p₃ _ 3 p₄ a₄ _ 4 p₇ a₇ (omega arith) x₃ y₄ in
@@ -403,39 +379,13 @@ unfolding image
 image-length k t absent = omega arith
 image-length k t (holds v) = omega (arith, length-bytesOf k (joined (t v)))
 
-pub fields-length : (u : Unit) → length (fieldsImage u) ≡ dataOf u
+fields-length : (u : Unit) → length (fieldsImage u) ≡ dataOf u
 unfolding fieldsImage dataOf
-fields-length u =
-    let a = timesImage (u .times) in
-    let b = escrImage (u .escr) in
-    let c = image 3 rateTable (rateField (u .rate)) in
-    let d = image 1 trickTable (byteField (u .trick)) in
-    let e = image 1 copyTable (byteField (u .copy)) in
-    let f = image 2 crcTable (crcField (u .crc)) in
-    omega (
-      arith,
-      length-append a (b ++ (c ++ (d ++ (e ++ f)))),
-      length-append b (c ++ (d ++ (e ++ f))),
-      length-append c (d ++ (e ++ f)),
-      length-append d (e ++ f),
-      length-append e f,
-      times-length (u .times),
-      escr-length (u .escr),
-      image-length 3 rateTable (rateField (u .rate)),
-      image-length 1 trickTable (byteField (u .trick)),
-      image-length 1 copyTable (byteField (u .copy)),
-      image-length 2 crcTable (crcField (u .crc)),
-    )
+fields-length u = simp (length-append, times-length, escr-length, image-length) (omega arith)
 
 pub header-length : (u : Unit) (n : ℕ) → length (headerImage u n) ≡ 9 + dataOf u
 unfolding headerImage
-header-length u n =
-    omega (
-      arith,
-      length-append (bytesOf 9 (joined (headTable u n))) (fieldsImage u),
-      length-bytesOf 9 (joined (headTable u n)),
-      fields-length u,
-    )
+header-length u n = simp (length-append, length-bytesOf, fields-length)
 
 -- ---- a packet
 
@@ -522,13 +472,7 @@ module _ (start id c : ℕ) where
       let p = 188 - r in
       let l : length (h ++ b) ≡ r = length-append h b in
       let ff : length (replicate {A = ℕ} r 255) ≡ r = length-replicate {A = ℕ} r 255 in
-      let lf : length front ≡ p = omega (
-        arith,
-        length-append (four r) (stuffing r),
-        length-bytesOf 4
-            (joined (packetTable start id (truth (ltb r 184)) c)),
-        stuffing-length r k,
-      ) in
+      let lf : length front ≡ p = simp (length-append, length-bytesOf) (omega (arith, stuffing-length r k)) in
       let q : 188 - length b ≡ p + length h = omega arith in
       let d : x ≡ front ++ replicate r 255 = e ∙ sym (append-assoc (four r) (stuffing r) (replicate r 255)) in
       let y : length (replicate {A = ℕ} r 255) ≤ length (h ++ b) = omega arith in
@@ -539,16 +483,9 @@ module _ (start id c : ℕ) where
       (ap (λ (y : List ℕ). placedAt y p (h ++ b)) d ∙ (placed-at front (replicate r 255) p (h ++ b) lf (omega arith)
       ∙ rw (z, append-nil (h ++ b), l, append-assoc (four r) (stuffing r) (h ++ b)))))))
 
-  pub carrier-length : (xs : List ℕ) → length xs ≤ 184 → length (carrier start id c xs) ≡ 188
+  carrier-length : (xs : List ℕ) → length xs ≤ 184 → length (carrier start id c xs) ≡ 188
   unfolding carrier
-  carrier-length xs h =
-      omega (
-        arith,
-        length-bytesOf 4 (joined (packetTable start id (truth (ltb (length xs) 184)) c)),
-        stuffing-length (length xs) h,
-        length-append (stuffing (length xs)) xs,
-        length-append (four (length xs)) (stuffing (length xs) ++ xs),
-      )
+  carrier-length xs h = simp (length-append, length-bytesOf) (omega (arith, stuffing-length (length xs) h))
 
   -- out of the image into the output: what follows the first four bytes, then these
   pub packet-put : (out h b x a₁ a₂ o₁ o₂ : List ℕ) → length h + length b ≤ 184 → 188 ≤ length out
@@ -563,23 +500,15 @@ module _ (start id c : ℕ) where
 
 -- ---- packets one after another
 
-module _ (n m : ℕ) (xs : List ℕ) (e : m ≡ min n (length xs)) where
-  pub take-least : take m xs ≡ take n xs
-  take-least = go (leb n (length xs)) refl
-    where
-      go : (b : Bool) → leb n (length xs) ≡ b → take m xs ≡ take n xs
-      go true f = let h : m ≡ n = omega (arith, leb-true n (length xs) f) in ap (λ (k : ℕ). take k xs) h
-      go false f = take-all m xs (omega (arith, leb-false n (length xs) f)) ∙ sym (take-all n xs (omega (arith, leb-false n (length xs) f)))
-
-  pub drop-least : drop m xs ≡ drop n xs
-  drop-least = go (leb n (length xs)) refl
-    where
-      go : (b : Bool) → leb n (length xs) ≡ b → drop m xs ≡ drop n xs
-      go true f = let h : m ≡ n = omega (arith, leb-true n (length xs) f) in ap (λ (k : ℕ). drop k xs) h
-      go false f =
-          let a : length xs ≤ m = omega (arith, leb-false n (length xs) f) in
-          let b : length xs ≤ n = omega (arith, leb-false n (length xs) f) in
-          drop-of-length-le xs a ∙ sym (drop-of-length-le xs b)
+least : (n m : ℕ) (xs : List ℕ) → m ≡ min n (length xs) → (take m xs ≡ take n xs) × (drop m xs ≡ drop n xs)
+least n m xs e = go (leb n (length xs)) refl
+  where
+    go : (b : Bool) → leb n (length xs) ≡ b → (take m xs ≡ take n xs) × (drop m xs ≡ drop n xs)
+    go true f = let h : m ≡ n = omega (arith, leb-true n (length xs) f) in (ap (λ (k : ℕ). take k xs) h, ap (λ (k : ℕ). drop k xs) h)
+    go false f =
+        let a : length xs ≤ m = omega (arith, leb-false n (length xs) f) in
+        let b : length xs ≤ n = omega (arith, leb-false n (length xs) f) in
+        (take-all m xs a ∙ sym (take-all n xs b), drop-of-length-le xs a ∙ sym (drop-of-length-le xs b))
 
 -- one packet more
 carried-one : (k start id c : ℕ) (xs : List ℕ) → 0 < k
@@ -589,7 +518,7 @@ carried-one zero start id c xs h = absurd (not-suc-le-zero h)
 carried-one (suc k) start id c xs h = let e : suc k - 1 ≡ k = omega arith in rw e
 
 -- a part of the output with a packet at its front, put back into it
-pub part-placed : (out x y : List ℕ) (p m : ℕ) → p + m ≤ length out → length x ≤ m → y ≡ placedAt (take m (drop p out)) 0 x
+part-placed : (out x y : List ℕ) (p m : ℕ) → p + m ≤ length out → length x ≤ m → y ≡ placedAt (take m (drop p out)) 0 x
     → take p out ++ (y ++ drop m (drop p out)) ≡ placedAt out p x
 part-placed out x y p m h l e =
     let b = drop p out in
@@ -711,10 +640,10 @@ packets-made r u payload out d first count ff head after tail lff eh ed dh ef ea
     let w : 184 ≡ length h + (184 - (9 + d)) = omega arith in
     let tk : take 184 (h ++ payload) ≡ h ++ take first payload
     = ap (λ (k : ℕ). take k (h ++ payload)) w ∙
-    (take-append-add h payload (184 - (9 + d)) ∙ ap (λ (y : List ℕ). h ++ y) (sym (take-least (184 - (9 + d)) first payload ef))) in
+    (take-append-add h payload (184 - (9 + d)) ∙ ap (λ (y : List ℕ). h ++ y) (sym (least (184 - (9 + d)) first payload ef .0))) in
     let dk : drop 184 (h ++ payload) ≡ drop first payload
     = ap (λ (k : ℕ). drop k (h ++ payload)) w ∙
-    (drop-append-add h payload (184 - (9 + d)) ∙ sym (drop-least (184 - (9 + d)) first payload ef)) in
+    (drop-append-add h payload (184 - (9 + d)) ∙ sym (least (184 - (9 + d)) first payload ef .1)) in
     let lt : length (take 184 (h ++ payload)) ≤ 184 = simp length-take (omega arith) in
     let q : x ≡ carrier 1 (r .pid) (r .counter) (take 184 (h ++ payload)) = rw (hh, tk) in
     let lx : length x ≡ 188 = ap length q ∙ carrier-length 1 (r .pid) (r .counter) (take 184 (h ++ payload)) lt in
@@ -810,8 +739,6 @@ pub ruleset field-laws = (times-none, times-alone, times-pair, escr-none, escr-t
 pub ruleset header-laws = (head-written, header-made, needs)
 
 pub ruleset packet-laws = (blank-full, blank-zero, blank-short, packet-put, needs)
-
-pub ruleset passed-laws = (route-pid, route-counter, size-payload, size-stated, room, needs)
 
 pub ruleset write-laws = (write-route, write-unit, write-long, write-full, write-done, needs)
 
