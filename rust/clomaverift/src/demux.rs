@@ -1,13 +1,14 @@
 //! A driver: a recording of many PIDs in, what an analyser wants to know of it out.
 
 use crate::error::{sure, Error};
+use crate::ffi;
 use crate::gather::Gathering;
-use crate::machine::{Event, EventKind, Machine};
+use crate::machine::{Event, EventKind, Machine, ENTRY};
 use crate::packet::{ClockRef, Packet, Pid};
 use crate::pes::{PesHeader, PesLength, PtsDts, StreamId, Timestamp};
 use alloc::vec;
 use alloc::vec::Vec;
-use core::fmt;
+use core::{fmt, mem};
 
 /// The log of one packet, which has at most two events.
 const LOG: usize = 16;
@@ -90,7 +91,7 @@ pub enum Found<'a> {
         mark: Mark,
     },
     /// A packet was refused, and counts in the index alone: [`Error::NoSync`], or [`Error::WrongLength`] for bytes after the last
-    /// whole packet.
+    /// whole packet. With archives that are newer than this crate also [`Error::Unknown`], for an event of a kind that it does not know.
     #[non_exhaustive]
     Refused {
         /// The packet.
@@ -160,11 +161,15 @@ pub enum Mark {
 }
 
 impl Mark {
+    #[inline]
     fn of(packet: &Packet<'_>) -> Option<Mark> {
         if packet.transport_error_indicator() {
-            return Some(Mark::Damaged);
+            Some(Mark::Damaged)
+        } else if packet.transport_scrambling_control().is_scrambled() {
+            Some(Mark::Scrambled)
+        } else {
+            None
         }
-        packet.transport_scrambling_control().is_scrambled().then_some(Mark::Scrambled)
     }
 }
 
@@ -333,13 +338,13 @@ impl Demux {
         }
     }
 
+    #[inline]
     fn take(&mut self, bytes: &[u8], tell: &mut impl FnMut(Found<'_>)) {
         let index = self.index;
-        let packet = match Packet::try_new(bytes) {
-            Ok(packet) => packet,
+        let (packet, pid) = match Packet::with_pid(bytes) {
+            Ok(both) => both,
             Err(error) => return tell(Found::Refused { index, error }),
         };
-        let pid = packet.pid();
         let slot = self.slots[usize::from(pid)];
         if slot == UNWANTED {
             return;
@@ -369,21 +374,39 @@ impl Demux {
     }
 
     /// Has a stream take a packet.
+    #[inline]
     fn step(&mut self, slot: usize, packet: &[u8], tell: &mut impl FnMut(Found<'_>)) {
         let mut log = [0; LOG];
         let machine = &mut self.streams[slot].machine;
         machine.rewind();
         sure(machine.step(packet, &mut log));
-        for event in machine.events(&log) {
-            let event = sure(event);
-            let need = self.streams[slot].need(event);
-            if need > self.streams[slot].store.len() {
-                self.make_room(slot, need);
-            }
-            if !self.streams[slot].event(packet, event, self.index, tell) {
-                self.held -= self.streams[slot].free();
+        let end = machine.place();
+        if end == 0 {
+            return;
+        }
+        // Most packets only go on with a unit that has room for them.
+        let first = sure(ffi::log_entry_at(&log, 0));
+        let begin = if self.streams[slot].goes_on(packet, first) { ENTRY } else { 0 };
+        for at in (begin..end).step_by(ENTRY) {
+            match Event::at(&log, at) {
+                Ok(event) => self.event(slot, packet, event, tell),
+                Err(error) => tell(Found::Refused { index: self.index, error }),
             }
         }
+    }
+
+    /// Has a stream take an event of a packet.
+    fn event(&mut self, slot: usize, packet: &[u8], event: Event, tell: &mut impl FnMut(Found<'_>)) {
+        let need = self.streams[slot].need(event);
+        if need > self.streams[slot].store.len() {
+            self.make_room(slot, need);
+        }
+        let (index, stream) = (self.index, &mut self.streams[slot]);
+        if !stream.gather(packet, event) {
+            self.held -= stream.give_up();
+            tell(Found::StoreFull { pid: stream.pid, index });
+        }
+        stream.tell(packet, event, index, tell);
     }
 
     /// Lets the store of a stream grow to so many bytes, or to as many as are allowed.
@@ -447,6 +470,19 @@ impl Stream {
         Stream { pid, machine: Machine::new(), gathering: Gathering::new(), store: Vec::new(), unit: None }
     }
 
+    /// Whether an entry of the log adds to the open unit, and there is room: then it is done.
+    #[inline]
+    fn goes_on(&mut self, packet: &[u8], [kind, _, place, length]: [u64; 4]) -> bool {
+        let (kind, event) = (kind as u8, [kind as u8, place as u8, length as u8]);
+        let short = kind == u8::from(EventKind::ContinuePacket)
+            && self.gathering.is_open()
+            && length as usize <= self.store.len() - self.gathering.count();
+        if short {
+            sure(self.gathering.gather_numbers(packet, event, &mut self.store));
+        }
+        short
+    }
+
     /// How many bytes the store has to have for an event.
     fn need(&self, event: Event) -> usize {
         match event.kind {
@@ -478,19 +514,25 @@ impl Stream {
         before - self.store.len()
     }
 
-    /// Frees the store of a unit that was given up: how many bytes.
-    fn free(&mut self) -> usize {
-        core::mem::take(&mut self.store).len()
+    /// Frees the memory of a unit that the store has no room for: how many bytes.
+    #[cold]
+    fn give_up(&mut self) -> usize {
+        self.unit = None;
+        mem::take(&mut self.store).len()
     }
 
-    /// Takes an event. Whether there was room for its bytes.
-    fn event(&mut self, packet: &[u8], event: Event, index: u64, tell: &mut impl FnMut(Found<'_>)) -> bool {
-        let pid = self.pid;
-        let room = self.gather(packet, event);
-        if !room {
-            self.unit = None;
-            tell(Found::StoreFull { pid, index });
+    /// Takes an event into the store. Whether there was room for its bytes; nothing else can be refused.
+    fn gather(&mut self, packet: &[u8], event: Event) -> bool {
+        match self.gathering.gather(packet, event, &mut self.store) {
+            Ok(()) => true,
+            Err(Error::StoreFull) => false,
+            Err(other) => sure(Err(other)),
         }
+    }
+
+    /// Tells what an event says.
+    fn tell(&mut self, packet: &[u8], event: Event, index: u64, tell: &mut impl FnMut(Found<'_>)) {
+        let pid = self.pid;
         match event.kind {
             EventKind::StartStream => tell(Found::StartStream { pid, index }),
             EventKind::BeginPacket => self.begin(event.bytes(packet), index, tell),
@@ -501,17 +543,6 @@ impl Stream {
                 tell(Found::ContinuityError { pid, index });
             }
         }
-        room
-    }
-
-    /// Takes an event into the store. Whether there was room for its bytes; nothing else can be refused.
-    fn gather(&mut self, packet: &[u8], event: Event) -> bool {
-        let gathered = self.gathering.gather(packet, event, &mut self.store);
-        let room = gathered != Err(Error::StoreFull);
-        if room {
-            sure(gathered);
-        }
-        room
     }
 
     fn begin(&mut self, bytes: &[u8], index: u64, tell: &mut impl FnMut(Found<'_>)) {
@@ -735,6 +766,6 @@ mod tests {
 
     #[test]
     fn a_stream_is_small() {
-        assert!(core::mem::size_of::<Stream>() <= 200);
+        assert!(mem::size_of::<Stream>() <= 200);
     }
 }

@@ -70,12 +70,20 @@ pub enum Error {
 }
 
 impl Error {
-    /// What an entry's word says: nothing for 0, else the number, plus 256 times the first and 65,536 times the second number named
-    /// with it.
+    /// What an entry's word says: nothing for 0, else a refusal.
+    #[inline]
     pub(crate) fn from_word(word: u32) -> Option<Error> {
+        match word {
+            0 => None,
+            _ => Some(Error::from_refusal(word)),
+        }
+    }
+
+    /// A refusal's word is its number, plus 256 times the first and 65,536 times the second number named with it.
+    #[inline]
+    fn from_refusal(word: u32) -> Error {
         let [number, first, second, _] = word.to_le_bytes();
-        Some(match number {
-            0 => return None,
+        match number {
             1 => Error::WrongLength,
             2 => Error::NoSync,
             3 => Error::ShortHeader,
@@ -97,7 +105,7 @@ impl Error {
             19 => Error::NoRoom,
             20 => Error::StoreFull,
             _ => Error::Unknown(number.into()),
-        })
+        }
     }
 
     /// The number of the refusal, 1 to 20; 0 for [`Error::Unknown`].
@@ -177,8 +185,17 @@ pub(crate) fn unknown(number: u64) -> Error {
 }
 
 /// An answer that cannot be a refusal, because what was asked for was checked when its value was made.
+#[inline]
 pub(crate) fn sure<T>(answer: Result<T, Error>) -> T {
-    answer.expect("the value was checked when it was made")
+    match answer {
+        Ok(value) => value,
+        Err(error) => refused(error),
+    }
+}
+
+#[cold]
+fn refused(error: Error) -> ! {
+    panic!("refused, although it was checked before: {error}")
 }
 
 #[cfg(test)]

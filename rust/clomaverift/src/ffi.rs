@@ -7,6 +7,7 @@ use crate::error::Error;
 use crate::writer::{Numbers, Unit};
 
 /// The out numbers, or the refusal that the word says.
+#[inline]
 fn told<T>(word: u32, outs: T) -> Result<T, Error> {
     match Error::from_word(word) {
         None => Ok(outs),
@@ -17,7 +18,8 @@ fn told<T>(word: u32, outs: T) -> Result<T, Error> {
 /// Makes a safe function of each entry that reads a slice and has only out numbers beside it.
 macro_rules! readers {
     ($($function:ident = $entry:ident($($out:ident),*);)*) => {
-        $(pub fn $function(buf: &[u8]) -> Result<[u64; <[&str]>::len(&[$(stringify!($out)),*])], Error> {
+        $(#[inline]
+        pub fn $function(buf: &[u8]) -> Result<[u64; <[&str]>::len(&[$(stringify!($out)),*])], Error> {
             $(let mut $out = 0;)*
             // SAFETY: the pointer and the length are those of a live slice, and the out numbers are live: all that the entry asks.
             let word = unsafe { $entry(buf.as_ptr(), buf.len() $(, &mut $out)*) };
@@ -54,7 +56,8 @@ impl<const N: usize> Row<N> {
 /// Makes a safe function of each entry that reads a slice and fills a row of out numbers.
 macro_rules! rows {
     ($($function:ident = $entry:ident[$count:literal];)*) => {
-        $(pub fn $function(buf: &[u8]) -> Result<Row<$count>, Error> {
+        $(#[inline]
+        pub fn $function(buf: &[u8]) -> Result<Row<$count>, Error> {
             let mut numbers = [0; $count];
             // SAFETY: the pointer and the length are those of a live slice, and the row is live: all that the entry asks.
             let word = unsafe { $entry(buf.as_ptr(), buf.len(), &mut numbers) };
@@ -66,7 +69,8 @@ macro_rules! rows {
 /// Makes a safe function of each entry on numbers.
 macro_rules! functions {
     ($($function:ident = $entry:ident($($number:ident: $kind:ty),* => $($out:ident),*);)*) => {
-        $(pub fn $function($($number: $kind),*) -> Result<[u64; <[&str]>::len(&[$(stringify!($out)),*])], Error> {
+        $(#[inline]
+        pub fn $function($($number: $kind),*) -> Result<[u64; <[&str]>::len(&[$(stringify!($out)),*])], Error> {
             $(let mut $out = 0;)*
             // SAFETY: the out numbers are live: all that the entry asks.
             let word = unsafe { $entry($($number,)* $(&mut $out),*) };
@@ -201,6 +205,7 @@ pub mod constants {
 
 // ---- The event machine and its log.
 
+#[inline]
 pub fn machine_step(state: &mut [u64; 4], packet: &[u8], log: &mut [u8]) -> Result<(), Error> {
     // SAFETY: the pointers and the lengths are those of a live row and live slices, and what is written shares no byte with another.
     let word = unsafe { cmv_machine_step(state, packet.as_ptr(), packet.len(), log.as_mut_ptr(), log.len()) };
@@ -208,6 +213,7 @@ pub fn machine_step(state: &mut [u64; 4], packet: &[u8], log: &mut [u8]) -> Resu
 }
 
 /// How many packets were taken, and the word of the refusal of the next one.
+#[inline]
 pub fn machine_run(state: &mut [u64; 4], bytes: &[u8], log: &mut [u8]) -> Result<[u64; 2], Error> {
     let [mut taken, mut ended] = [0; 2];
     // SAFETY: as for `machine_step`, and the out numbers are live.
@@ -218,6 +224,7 @@ pub fn machine_run(state: &mut [u64; 4], bytes: &[u8], log: &mut [u8]) -> Result
 }
 
 /// Kind, packet index, place and length.
+#[inline]
 pub fn log_entry_at(log: &[u8], at: usize) -> Result<[u64; 4], Error> {
     let [mut kind, mut index, mut place, mut length] = [0; 4];
     // SAFETY: the pointer and the length are those of a live slice, and the out numbers are live.
@@ -227,6 +234,7 @@ pub fn log_entry_at(log: &[u8], at: usize) -> Result<[u64; 4], Error> {
 
 // ---- The gathering store.
 
+#[inline]
 pub fn gather(state: &mut [u64; 3], packet: &[u8], event: [u8; 3], store: &mut [u8]) -> Result<(), Error> {
     let [kind, place, length] = event;
     // SAFETY: the pointers and the lengths are those of a live row and live slices, and what is written shares no byte with another.
@@ -237,6 +245,7 @@ pub fn gather(state: &mut [u64; 3], packet: &[u8], event: [u8; 3], store: &mut [
 }
 
 /// The slice, 0 the packet and 1 the store, and the place and length of a part of it.
+#[inline]
 pub fn gather_bytes(state: &[u64; 3], packet: &[u8], store: &[u8]) -> Result<[u64; 3], Error> {
     let [mut slice, mut place, mut length] = [0; 3];
     // SAFETY: the pointers and the lengths are those of a live row and live slices, and the out numbers are live.

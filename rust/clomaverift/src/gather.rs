@@ -33,6 +33,7 @@ pub struct Gathering {
 }
 
 impl Default for Gathering {
+    #[inline]
     fn default() -> Gathering {
         Gathering::new()
     }
@@ -41,6 +42,7 @@ impl Default for Gathering {
 impl Gathering {
     /// Before the first event: no unit, no bytes.
     #[must_use]
+    #[inline]
     pub fn new() -> Gathering {
         Gathering { row: [0, 0, STORE] }
     }
@@ -52,8 +54,15 @@ impl Gathering {
     ///
     /// In this order: [`Error::WrongLength`], [`Error::NoSync`], [`Error::OutOfRange`], [`Error::StoreFull`]. On the last the unit is
     /// closed and has no bytes; on the others nothing changes.
+    #[inline]
     pub fn gather(&mut self, packet: &[u8], event: Event, store: &mut [u8]) -> Result<(), Error> {
-        ffi::gather(&mut self.row, packet, [event.kind as u8, event.place, event.length], store)
+        self.gather_numbers(packet, [event.kind as u8, event.place, event.length], store)
+    }
+
+    /// The same of an event's kind, place and length.
+    #[inline]
+    pub(crate) fn gather_numbers(&mut self, packet: &[u8], event: [u8; 3], store: &mut [u8]) -> Result<(), Error> {
+        ffi::gather(&mut self.row, packet, event, store)
     }
 
     /// The bytes so far: a part of the packet of a begin, otherwise of the store. The packet is that of the last event.
@@ -61,6 +70,7 @@ impl Gathering {
     /// # Errors
     ///
     /// In this order: [`Error::WrongLength`], [`Error::NoSync`], [`Error::OutOfRange`] if the bytes reach past the packet or the store.
+    #[inline]
     pub fn bytes<'buf>(&self, packet: &'buf [u8], store: &'buf [u8]) -> Result<&'buf [u8], Error> {
         let [slice, place, length] = ffi::gather_bytes(&self.row, packet, store)?;
         let lent = if slice == 0 { packet } else { store };
@@ -69,12 +79,14 @@ impl Gathering {
 
     /// Whether a unit is open.
     #[must_use]
+    #[inline]
     pub fn is_open(&self) -> bool {
         self.row[0] == 1
     }
 
     /// How many bytes it has, or had when it was closed.
     #[must_use]
+    #[inline]
     pub fn count(&self) -> usize {
         self.row[1] as usize
     }

@@ -10,7 +10,7 @@ use core::iter::FusedIterator;
 const NO_COUNTER: u64 = 255;
 
 /// The bytes of a log entry.
-const ENTRY: usize = 8;
+pub(crate) const ENTRY: usize = 8;
 
 /// Where a machine is.
 #[derive(Clone, Copy, Debug, PartialEq, Eq, Hash)]
@@ -50,6 +50,7 @@ pub struct Machine {
 }
 
 impl Default for Machine {
+    #[inline]
     fn default() -> Machine {
         Machine::new()
     }
@@ -58,12 +59,14 @@ impl Default for Machine {
 impl Machine {
     /// A machine before its first packet, at the start of a log.
     #[must_use]
+    #[inline]
     pub fn new() -> Machine {
         Machine { row: [0, NO_COUNTER, 0, 0] }
     }
 
     /// A machine in a state that was kept elsewhere. A step or a run checks the place, which has to be a multiple of 8 within the log.
     #[must_use]
+    #[inline]
     pub fn from_parts(phase: Phase, last: Option<ContinuityCounter>, taken: u32, place: usize) -> Machine {
         let phase = match phase {
             Phase::Begin => 0,
@@ -80,6 +83,7 @@ impl Machine {
     ///
     /// In this order: [`Error::WrongLength`], [`Error::NoSync`], [`Error::OutOfRange`] for a place that is not a multiple of 8 within the
     /// log, [`Error::IndexFull`], [`Error::LogFull`]. A refused packet changes neither the machine nor the log.
+    #[inline]
     pub fn step(&mut self, packet: &[u8], log: &mut [u8]) -> Result<(), Error> {
         ffi::machine_step(&mut self.row, packet, log)
     }
@@ -119,23 +123,27 @@ impl Machine {
     /// let mut between_entries = Machine::from_parts(Phase::Begin, None, 0, 4);
     /// assert_eq!(between_entries.run(&[], &mut log), Err(Error::OutOfRange));
     /// ```
+    #[inline]
     pub fn run(&mut self, packets: &[u8], log: &mut [u8]) -> Result<Ran, Error> {
         let [packets, ended] = ffi::machine_run(&mut self.row, packets, log)?;
         Ok(Ran { packets: packets as u32, ended: Error::from_word(ended as u32) })
     }
 
     /// The events that the machine has written to its log.
+    #[inline]
     pub fn events<'log>(&self, log: &'log [u8]) -> Events<'log> {
         Events::new(&log[..self.place().min(log.len())])
     }
 
     /// Puts the machine at the start of a log, and its count of packets to 0. The stream goes on.
+    #[inline]
     pub fn rewind(&mut self) {
         self.row[2..].fill(0);
     }
 
     /// Where the machine is.
     #[must_use]
+    #[inline]
     pub fn phase(&self) -> Phase {
         match self.row[0] {
             0 => Phase::Begin,
@@ -146,18 +154,21 @@ impl Machine {
 
     /// The counter of the last packet taken.
     #[must_use]
+    #[inline]
     pub fn last(&self) -> Option<ContinuityCounter> {
         ContinuityCounter::new(self.row[1] as u8).ok()
     }
 
     /// The packets taken: the index of the next one.
     #[must_use]
+    #[inline]
     pub fn taken(&self) -> u32 {
         self.row[2] as u32
     }
 
     /// The next free byte of the log.
     #[must_use]
+    #[inline]
     pub fn place(&self) -> usize {
         self.row[3] as usize
     }
@@ -185,6 +196,7 @@ pub struct Ran {
 
 impl Ran {
     /// A run of so many packets, and why it ended before its last one.
+    #[inline]
     pub fn new(packets: u32, ended: Option<Error>) -> Ran {
         Ran { packets, ended }
     }
@@ -210,18 +222,21 @@ impl TryFrom<u8> for EventKind {
     type Error = Error;
 
     /// The kind of this number in the log. [`Error::OutOfRange`] for a number that is not 1 to 5.
+    #[inline]
     fn try_from(number: u8) -> Result<EventKind, Error> {
         EventKind::of(number.into()).ok_or(Error::OutOfRange)
     }
 }
 
 impl From<EventKind> for u8 {
+    #[inline]
     fn from(kind: EventKind) -> u8 {
         kind as u8
     }
 }
 
 impl EventKind {
+    #[inline]
     fn of(number: u64) -> Option<EventKind> {
         Some(match number {
             1 => EventKind::StartStream,
@@ -267,16 +282,19 @@ impl Event {
     /// # Errors
     ///
     /// [`Error::OutOfRange`] if the log has none there, or the bytes are no entry.
+    #[inline]
     pub fn at(log: &[u8], at: usize) -> Result<Event, Error> {
         ffi::log_entry_at(log, at).and_then(Event::of)
     }
 
     /// An event of the packet with this index, with the offset and length of the payload.
     #[must_use]
+    #[inline]
     pub fn new(kind: EventKind, index: u32, place: u8, length: u8) -> Event {
         Event { kind, index, place, length }
     }
 
+    #[inline]
     fn of([kind, index, place, length]: [u64; 4]) -> Result<Event, Error> {
         let kind = EventKind::of(kind).ok_or_else(|| unknown(kind))?;
         Ok(Event { kind, index: index as u32, place: place as u8, length: length as u8 })
@@ -284,6 +302,7 @@ impl Event {
 
     /// The event's part of its packet: the payload, for a begin and a continue. Empty if the packet has no such part.
     #[must_use]
+    #[inline]
     pub fn bytes<'buf>(&self, packet: &'buf [u8]) -> &'buf [u8] {
         let start = usize::from(self.place);
         packet.get(start..start + usize::from(self.length)).unwrap_or_default()
@@ -313,6 +332,7 @@ pub struct Events<'log> {
 
 impl<'log> Events<'log> {
     /// Of all the bytes. For the events that a machine has written, [`Machine::events`].
+    #[inline]
     pub fn new(log: &'log [u8]) -> Events<'log> {
         Events { log, at: 0 }
     }
@@ -321,6 +341,7 @@ impl<'log> Events<'log> {
 impl Iterator for Events<'_> {
     type Item = Result<Event, Error>;
 
+    #[inline]
     fn next(&mut self) -> Option<Result<Event, Error>> {
         if self.at >= self.log.len() {
             return None;
@@ -330,6 +351,7 @@ impl Iterator for Events<'_> {
         Some(event)
     }
 
+    #[inline]
     fn size_hint(&self) -> (usize, Option<usize>) {
         let left = self.log.len().saturating_sub(self.at);
         (usize::from(left > 0), Some((left + ENTRY - 1) / ENTRY))

@@ -12,21 +12,25 @@ use core::slice::Chunks;
 use core::time::Duration;
 
 /// A part of a slice, by offset and length.
+#[inline]
 pub(crate) fn part(buf: &[u8], [offset, length]: [u64; 2]) -> &[u8] {
     &buf[offset as usize..][..length as usize]
 }
 
 /// A number that is a flag.
+#[inline]
 pub(crate) fn flag([value]: [u64; 1]) -> bool {
     value != 0
 }
 
 /// A number that is a byte.
+#[inline]
 pub(crate) fn byte([value]: [u64; 1]) -> u8 {
     value as u8
 }
 
 /// A number of ticks of a clock, as the time since its 0, rounded down to nanoseconds.
+#[inline]
 pub(crate) fn duration(ticks: u64, ticks_per_second: u64) -> Duration {
     let nanoseconds = ticks % ticks_per_second * 1_000_000_000 / ticks_per_second;
     Duration::new(ticks / ticks_per_second, nanoseconds as u32)
@@ -47,22 +51,26 @@ impl AdaptationControl {
     /// assert!(control.has_payload() && !control.has_adaptation_field());
     /// ```
     #[must_use]
+    #[inline]
     pub fn new(header_byte: u8) -> AdaptationControl {
         AdaptationControl::of(sure(ffi::adaptation_control(header_byte)))
     }
 
+    #[inline]
     fn of([field, payload]: [u64; 2]) -> AdaptationControl {
         AdaptationControl { adaptation_field: field != 0, payload: payload != 0 }
     }
 
     /// Whether a payload is announced.
     #[must_use]
+    #[inline]
     pub fn has_payload(&self) -> bool {
         self.payload
     }
 
     /// Whether an adaptation field is announced.
     #[must_use]
+    #[inline]
     pub fn has_adaptation_field(&self) -> bool {
         self.adaptation_field
     }
@@ -83,22 +91,26 @@ impl TransportScramblingControl {
     /// assert_eq!(control.scheme().unwrap().get(), 2);
     /// ```
     #[must_use]
+    #[inline]
     pub fn from_byte_four(val: u8) -> TransportScramblingControl {
         TransportScramblingControl::of(sure(ffi::transport_scrambling_control(val)))
     }
 
+    #[inline]
     fn of([_, scheme]: [u64; 2]) -> TransportScramblingControl {
         TransportScramblingControl { scheme: NonZeroU8::new(scheme as u8) }
     }
 
     /// Whether the bits are not 00.
     #[must_use]
+    #[inline]
     pub fn is_scrambled(&self) -> bool {
         self.scheme.is_some()
     }
 
     /// The value of the bits, if it is not 0.
     #[must_use]
+    #[inline]
     pub fn scheme(&self) -> Option<NonZeroU8> {
         self.scheme
     }
@@ -136,6 +148,7 @@ impl ClockRef {
     /// # Errors
     ///
     /// [`Error::WrongLength`] for fewer than 6 bytes.
+    #[inline]
     pub fn from_slice(data: &[u8]) -> Result<ClockRef, Error> {
         ffi::clock_ref_from_slice(data).map(ClockRef::of)
     }
@@ -145,22 +158,26 @@ impl ClockRef {
     /// # Errors
     ///
     /// [`Error::OutOfRange`] for a base of 2^33 or more or an extension of 512 or more.
+    #[inline]
     pub fn from_parts(base: u64, extension: u16) -> Result<ClockRef, Error> {
         ffi::clock_ref_from_parts(base, extension).map(ClockRef::of)
     }
 
+    #[inline]
     pub(crate) fn of([base, extension]: [u64; 2]) -> ClockRef {
         ClockRef { base, extension: extension as u16 }
     }
 
     /// The base, at 90 kHz.
     #[must_use]
+    #[inline]
     pub fn base(&self) -> u64 {
         self.base
     }
 
     /// The extension, at 27 MHz.
     #[must_use]
+    #[inline]
     pub fn extension(&self) -> u16 {
         self.extension
     }
@@ -175,12 +192,14 @@ impl ClockRef {
     /// # Ok::<(), clomaverift::Error>(())
     /// ```
     #[must_use]
+    #[inline]
     pub fn since(self, earlier: ClockRef) -> u64 {
         (u64::from(self) + ClockRef::TICKS - u64::from(earlier) % ClockRef::TICKS) % ClockRef::TICKS
     }
 
     /// The seconds since the clock was 0.
     #[must_use]
+    #[inline]
     pub fn as_seconds(self) -> f64 {
         u64::from(self) as f64 / ClockRef::TIMEBASE as f64
     }
@@ -195,12 +214,14 @@ impl ClockRef {
     /// # Ok::<(), clomaverift::Error>(())
     /// ```
     #[must_use]
+    #[inline]
     pub fn as_duration(self) -> Duration {
         duration(self.into(), ClockRef::TIMEBASE)
     }
 }
 
 impl PartialEq for ClockRef {
+    #[inline]
     fn eq(&self, other: &ClockRef) -> bool {
         flag(sure(ffi::clock_ref_eq(self.base, self.extension, other.base, other.extension)))
     }
@@ -209,18 +230,21 @@ impl PartialEq for ClockRef {
 impl Eq for ClockRef {}
 
 impl Hash for ClockRef {
+    #[inline]
     fn hash<H: Hasher>(&self, state: &mut H) {
         (self.base, self.extension).hash(state);
     }
 }
 
 impl Ord for ClockRef {
+    #[inline]
     fn cmp(&self, other: &ClockRef) -> Ordering {
         (u64::from(*self), self.base).cmp(&(u64::from(*other), other.base))
     }
 }
 
 impl PartialOrd for ClockRef {
+    #[inline]
     fn partial_cmp(&self, other: &ClockRef) -> Option<Ordering> {
         Some(self.cmp(other))
     }
@@ -228,6 +252,7 @@ impl PartialOrd for ClockRef {
 
 /// Its number at 27 MHz.
 impl From<ClockRef> for u64 {
+    #[inline]
     fn from(clock: ClockRef) -> u64 {
         let [number] = sure(ffi::clock_ref_into_u64(clock.base, clock.extension));
         number
@@ -268,22 +293,26 @@ impl ContinuityCounter {
     /// # Errors
     ///
     /// [`Error::OutOfRange`] for a number above 15.
+    #[inline]
     pub fn new(count: u8) -> Result<ContinuityCounter, Error> {
         ffi::continuity_counter_new(count).map(ContinuityCounter::of)
     }
 
+    #[inline]
     fn of([value]: [u64; 1]) -> ContinuityCounter {
         ContinuityCounter { val: value as u8 }
     }
 
     /// Its number.
     #[must_use]
+    #[inline]
     pub fn count(self) -> u8 {
         self.val
     }
 
     /// Whether this counter is the one after `other`; after 15 comes 0.
     #[must_use]
+    #[inline]
     pub fn follows(self, other: ContinuityCounter) -> bool {
         flag(sure(ffi::continuity_counter_follows(self.val, other.val)))
     }
@@ -292,12 +321,14 @@ impl ContinuityCounter {
 impl TryFrom<u8> for ContinuityCounter {
     type Error = Error;
 
+    #[inline]
     fn try_from(count: u8) -> Result<ContinuityCounter, Error> {
         ContinuityCounter::new(count)
     }
 }
 
 impl From<ContinuityCounter> for u8 {
+    #[inline]
     fn from(counter: ContinuityCounter) -> u8 {
         counter.val
     }
@@ -348,6 +379,7 @@ impl Pid {
     ///
     /// [`Error::OutOfRange`] for a number above [`Pid::MAX_VALUE`].
     // A constant cannot call the library: a test holds this function to the library's over every number.
+    #[inline]
     pub const fn new(pid: u16) -> Result<Pid, Error> {
         if pid > Pid::MAX_VALUE {
             return Err(Error::OutOfRange);
@@ -355,6 +387,7 @@ impl Pid {
         Ok(Pid(pid))
     }
 
+    #[inline]
     pub(crate) fn of([value]: [u64; 1]) -> Pid {
         Pid(value as u16)
     }
@@ -363,18 +396,21 @@ impl Pid {
 impl TryFrom<u16> for Pid {
     type Error = Error;
 
+    #[inline]
     fn try_from(pid: u16) -> Result<Pid, Error> {
         ffi::pid_try_from(pid).map(Pid::of)
     }
 }
 
 impl From<Pid> for u16 {
+    #[inline]
     fn from(pid: Pid) -> u16 {
         pid.0
     }
 }
 
 impl From<Pid> for usize {
+    #[inline]
     fn from(pid: Pid) -> usize {
         pid.0.into()
     }
@@ -436,6 +472,7 @@ impl<'buf> Packet<'buf> {
 
     /// Whether a packet may begin with this byte.
     #[must_use]
+    #[inline]
     pub fn is_sync_byte(b: u8) -> bool {
         flag(sure(ffi::packet_is_sync_byte(b)))
     }
@@ -445,65 +482,82 @@ impl<'buf> Packet<'buf> {
     /// # Errors
     ///
     /// [`Error::WrongLength`] if there are not 188 bytes, [`Error::NoSync`] if the first one is not the sync byte.
+    #[inline]
     pub fn try_new(buf: &'buf [u8]) -> Result<Packet<'buf>, Error> {
         ffi::packet_try_new(buf)?;
         Ok(Packet { buf })
     }
 
+    /// The same, and its PID, by one call of the library: reading the PID refuses what is no packet.
+    #[inline]
+    pub(crate) fn with_pid(buf: &'buf [u8]) -> Result<(Packet<'buf>, Pid), Error> {
+        ffi::packet_pid(buf).map(|pid| (Packet { buf }, Pid::of(pid)))
+    }
+
     /// Whether an earlier receiver has marked the packet as damaged.
     #[must_use]
+    #[inline]
     pub fn transport_error_indicator(&self) -> bool {
         flag(sure(ffi::packet_transport_error_indicator(self.buf)))
     }
 
     /// Whether a unit begins with this packet's payload.
     #[must_use]
+    #[inline]
     pub fn payload_unit_start_indicator(&self) -> bool {
         flag(sure(ffi::packet_payload_unit_start_indicator(self.buf)))
     }
 
     /// Whether the packet has priority over others of its PID.
     #[must_use]
+    #[inline]
     pub fn transport_priority(&self) -> bool {
         flag(sure(ffi::packet_transport_priority(self.buf)))
     }
 
     /// The stream that the packet is of.
     #[must_use]
+    #[inline]
     pub fn pid(&self) -> Pid {
         Pid::of(sure(ffi::packet_pid(self.buf)))
     }
 
     /// The scrambling bits.
     #[must_use]
+    #[inline]
     pub fn transport_scrambling_control(&self) -> TransportScramblingControl {
         TransportScramblingControl::of(sure(ffi::packet_transport_scrambling_control(self.buf)))
     }
 
     /// Whether an adaptation field and a payload are announced.
     #[must_use]
+    #[inline]
     pub fn adaptation_control(&self) -> AdaptationControl {
         AdaptationControl::of(sure(ffi::packet_adaptation_control(self.buf)))
     }
 
     /// The continuity counter.
     #[must_use]
+    #[inline]
     pub fn continuity_counter(&self) -> ContinuityCounter {
         ContinuityCounter::of(sure(ffi::packet_continuity_counter(self.buf)))
     }
 
     /// The adaptation field, if there is one of a possible length: 1 to 182 with a payload, 183 without.
     #[must_use]
+    #[inline]
     pub fn adaptation_field(&self) -> Option<AdaptationField<'buf>> {
         AdaptationField::of(self.buf, ffi::packet_adaptation_field(self.buf))
     }
 
     /// The payload, if there is one. It is never empty.
     #[must_use]
+    #[inline]
     pub fn payload(&self) -> Option<&'buf [u8]> {
         self.payload_of(ffi::packet_payload(self.buf))
     }
 
+    #[inline]
     fn payload_of(&self, answer: Result<[u64; 2], Error>) -> Option<&'buf [u8]> {
         answer.ok().map(|lies| part(self.buf, lies))
     }
@@ -522,6 +576,7 @@ impl<'buf> Packet<'buf> {
     /// # Ok::<(), Error>(())
     /// ```
     #[must_use]
+    #[inline]
     pub fn fields(&self) -> PacketFields<'buf> {
         let mut row = sure(ffi::packet_fields(self.buf));
         PacketFields {
@@ -539,6 +594,7 @@ impl<'buf> Packet<'buf> {
 
     /// The packet's bytes.
     #[must_use]
+    #[inline]
     pub fn buffer(&self) -> &'buf [u8] {
         self.buf
     }
@@ -547,6 +603,7 @@ impl<'buf> Packet<'buf> {
 impl<'buf> TryFrom<&'buf [u8]> for Packet<'buf> {
     type Error = Error;
 
+    #[inline]
     fn try_from(buf: &'buf [u8]) -> Result<Packet<'buf>, Error> {
         Packet::try_new(buf)
     }
@@ -598,6 +655,7 @@ pub struct Packets<'buf> {
 
 impl<'buf> Packets<'buf> {
     /// Of all the bytes.
+    #[inline]
     pub fn new(bytes: &'buf [u8]) -> Packets<'buf> {
         Packets { chunks: bytes.chunks(Packet::SIZE) }
     }
@@ -606,20 +664,24 @@ impl<'buf> Packets<'buf> {
 impl<'buf> Iterator for Packets<'buf> {
     type Item = Result<Packet<'buf>, Error>;
 
+    #[inline]
     fn next(&mut self) -> Option<Result<Packet<'buf>, Error>> {
         self.chunks.next().map(Packet::try_new)
     }
 
+    #[inline]
     fn size_hint(&self) -> (usize, Option<usize>) {
         self.chunks.size_hint()
     }
 
+    #[inline]
     fn nth(&mut self, n: usize) -> Option<Result<Packet<'buf>, Error>> {
         self.chunks.nth(n).map(Packet::try_new)
     }
 }
 
 impl<'buf> DoubleEndedIterator for Packets<'buf> {
+    #[inline]
     fn next_back(&mut self) -> Option<Result<Packet<'buf>, Error>> {
         self.chunks.next_back().map(Packet::try_new)
     }
@@ -677,30 +739,35 @@ impl<'buf> AdaptationField<'buf> {
     /// # Errors
     ///
     /// [`Error::WrongLength`] if there are none.
+    #[inline]
     pub fn new(buf: &'buf [u8]) -> Result<AdaptationField<'buf>, Error> {
         ffi::adaptation_field_discontinuity_indicator(buf)?;
         Ok(AdaptationField { buf })
     }
 
     /// Of a packet, and the answer that gives the field's offset and length in it.
+    #[inline]
     pub(crate) fn of(packet: &'buf [u8], answer: Result<[u64; 2], Error>) -> Option<AdaptationField<'buf>> {
         answer.ok().map(|lies| AdaptationField { buf: part(packet, lies) })
     }
 
     /// Whether a discontinuity of the stream is announced.
     #[must_use]
+    #[inline]
     pub fn discontinuity_indicator(&self) -> bool {
         flag(sure(ffi::adaptation_field_discontinuity_indicator(self.buf)))
     }
 
     /// Whether the stream can be entered here.
     #[must_use]
+    #[inline]
     pub fn random_access_indicator(&self) -> bool {
         flag(sure(ffi::adaptation_field_random_access_indicator(self.buf)))
     }
 
     /// 1 if the payload has priority over others of its PID, else 0.
     #[must_use]
+    #[inline]
     pub fn elementary_stream_priority_indicator(&self) -> u8 {
         flag(sure(ffi::adaptation_field_elementary_stream_priority_indicator(self.buf))).into()
     }
@@ -710,6 +777,7 @@ impl<'buf> AdaptationField<'buf> {
     /// # Errors
     ///
     /// [`Error::FieldNotPresent`] if it is not flagged, [`Error::NotEnoughData`] if it is truncated.
+    #[inline]
     pub fn pcr(&self) -> Result<ClockRef, Error> {
         ffi::adaptation_field_pcr(self.buf).map(ClockRef::of)
     }
@@ -719,6 +787,7 @@ impl<'buf> AdaptationField<'buf> {
     /// # Errors
     ///
     /// [`Error::FieldNotPresent`] if it is not flagged, [`Error::NotEnoughData`] if it is truncated.
+    #[inline]
     pub fn opcr(&self) -> Result<ClockRef, Error> {
         ffi::adaptation_field_opcr(self.buf).map(ClockRef::of)
     }
@@ -729,6 +798,7 @@ impl<'buf> AdaptationField<'buf> {
     /// # Errors
     ///
     /// [`Error::FieldNotPresent`] if it is not flagged, [`Error::NotEnoughData`] if it is truncated.
+    #[inline]
     pub fn splice_countdown(&self) -> Result<u8, Error> {
         ffi::adaptation_field_splice_countdown(self.buf).map(byte)
     }
@@ -738,6 +808,7 @@ impl<'buf> AdaptationField<'buf> {
     /// # Errors
     ///
     /// [`Error::FieldNotPresent`] if it is not flagged, [`Error::NotEnoughData`] if it is truncated.
+    #[inline]
     pub fn transport_private_data(&self) -> Result<&'buf [u8], Error> {
         ffi::adaptation_field_transport_private_data(self.buf).map(|lies| part(self.buf, lies))
     }
@@ -747,6 +818,7 @@ impl<'buf> AdaptationField<'buf> {
     /// # Errors
     ///
     /// [`Error::FieldNotPresent`] if it is not flagged, [`Error::NotEnoughData`] if it is truncated or has no bytes.
+    #[inline]
     pub fn adaptation_field_extension(&self) -> Result<AdaptationFieldExtension<'buf>, Error> {
         let lies = ffi::adaptation_field_extension(self.buf)?;
         Ok(AdaptationFieldExtension { buf: part(self.buf, lies) })
@@ -792,6 +864,7 @@ impl<'buf> AdaptationFieldExtension<'buf> {
     /// # Errors
     ///
     /// [`Error::NotEnoughData`] if there are none.
+    #[inline]
     pub fn new(buf: &'buf [u8]) -> Result<AdaptationFieldExtension<'buf>, Error> {
         if buf.is_empty() {
             return Err(Error::NotEnoughData);
@@ -804,6 +877,7 @@ impl<'buf> AdaptationFieldExtension<'buf> {
     /// # Errors
     ///
     /// [`Error::FieldNotPresent`] if it is not flagged, [`Error::NotEnoughData`] if it is truncated.
+    #[inline]
     pub fn ltw_offset(&self) -> Result<Option<u16>, Error> {
         let [kind, offset] = ffi::adaptation_extension_ltw_offset(self.buf)?;
         Ok((kind == 1).then_some(offset as u16))
@@ -814,6 +888,7 @@ impl<'buf> AdaptationFieldExtension<'buf> {
     /// # Errors
     ///
     /// [`Error::FieldNotPresent`] if it is not flagged, [`Error::NotEnoughData`] if it is truncated.
+    #[inline]
     pub fn piecewise_rate(&self) -> Result<u32, Error> {
         ffi::adaptation_extension_piecewise_rate(self.buf).map(|[value]| value as u32)
     }
@@ -824,6 +899,7 @@ impl<'buf> AdaptationFieldExtension<'buf> {
     ///
     /// [`Error::FieldNotPresent`] if it is not flagged, [`Error::NotEnoughData`] if it is truncated, [`Error::MarkerBitNotSet`] if a
     /// marker bit of its time is 0.
+    #[inline]
     pub fn seamless_splice(&self) -> Result<SeamlessSplice, Error> {
         let [splice_type, dts] = ffi::adaptation_extension_seamless_splice(self.buf)?;
         Ok(SeamlessSplice { splice_type: splice_type as u8, dts_next_au: Timestamp::of([dts]) })

@@ -85,42 +85,49 @@ named_ids! {
 }
 
 impl StreamId {
+    #[inline]
     fn of([kind, low]: [u64; 2]) -> StreamId {
         StreamId { kind: kind as u8, low: low as u8 }
     }
 
     /// The id's number.
     #[must_use]
+    #[inline]
     pub fn number(&self) -> u8 {
         self.kind | self.low
     }
 
     /// Of an audio stream, its number: the low five bits of the id.
     #[must_use]
+    #[inline]
     pub fn audio(&self) -> Option<u8> {
         (self.kind == AUDIO).then_some(self.low)
     }
 
     /// Of a video stream, its number: the low five bits of the id.
     #[must_use]
+    #[inline]
     pub fn video(&self) -> Option<u8> {
         (self.kind == VIDEO).then_some(self.low)
     }
 }
 
 impl From<StreamId> for u8 {
+    #[inline]
     fn from(id: StreamId) -> u8 {
         id.number()
     }
 }
 
 impl Ord for StreamId {
+    #[inline]
     fn cmp(&self, other: &StreamId) -> Ordering {
         self.number().cmp(&other.number())
     }
 }
 
 impl PartialOrd for StreamId {
+    #[inline]
     fn partial_cmp(&self, other: &StreamId) -> Option<Ordering> {
         Some(self.cmp(other))
     }
@@ -169,6 +176,7 @@ impl<'buf> PesHeader<'buf> {
     /// # Errors
     ///
     /// [`Error::ShortHeader`] for fewer than 6 bytes, [`Error::BadStartCode`] if the first three are not 00 00 01.
+    #[inline]
     pub fn from_bytes(buf: &'buf [u8]) -> Result<PesHeader<'buf>, Error> {
         ffi::pes_header_from_bytes(buf)?;
         Ok(PesHeader { buf })
@@ -176,12 +184,14 @@ impl<'buf> PesHeader<'buf> {
 
     /// What kind of stream the packet is of.
     #[must_use]
+    #[inline]
     pub fn stream_id(&self) -> StreamId {
         StreamId::of(sure(ffi::pes_header_stream_id(self.buf)))
     }
 
     /// The length that the header gives.
     #[must_use]
+    #[inline]
     pub fn pes_packet_length(&self) -> PesLength {
         let [_, length] = sure(ffi::pes_header_pes_packet_length(self.buf));
         NonZeroU16::new(length as u16).map_or(PesLength::Unbounded, PesLength::Bounded)
@@ -189,6 +199,7 @@ impl<'buf> PesHeader<'buf> {
 
     /// What follows the six bytes of the header, by the stream id: parsed contents, or a payload alone.
     #[must_use]
+    #[inline]
     pub fn contents(&self) -> PesContents<'buf> {
         let [kind, place, length] = sure(ffi::pes_header_contents(self.buf));
         let rest = part(self.buf, [place, length]);
@@ -204,6 +215,7 @@ impl<'buf> PesHeader<'buf> {
     /// # Errors
     ///
     /// Those of [`PesParsedContents::from_bytes`], for parsed contents.
+    #[inline]
     pub fn payload(&self) -> Result<&'buf [u8], Error> {
         match self.contents() {
             PesContents::Payload(payload) => Ok(payload),
@@ -235,6 +247,7 @@ impl<'buf> PesContents<'buf> {
     /// # Errors
     ///
     /// Those of [`PesParsedContents::from_bytes`]; [`Error::FieldNotPresent`] for a payload alone.
+    #[inline]
     pub fn parsed(self) -> Result<PesParsedContents<'buf>, Error> {
         match self {
             PesContents::Parsed(parsed) => parsed,
@@ -276,6 +289,7 @@ pub enum DsmTrickMode {
 }
 
 impl DsmTrickMode {
+    #[inline]
     fn of([kind, first, second, third]: [u64; 4]) -> Result<DsmTrickMode, Error> {
         let first = first as u8;
         let intra_slice_refresh = second != 0;
@@ -306,6 +320,7 @@ pub enum FrequencyTruncationCoefficientSelection {
 }
 
 impl FrequencyTruncationCoefficientSelection {
+    #[inline]
     fn of(number: u64) -> Result<FrequencyTruncationCoefficientSelection, Error> {
         Ok(match number {
             0 => FrequencyTruncationCoefficientSelection::DCNonZero,
@@ -335,16 +350,19 @@ impl EsRate {
     /// # Errors
     ///
     /// [`Error::OutOfRange`] for 2^22 or more.
+    #[inline]
     pub fn new(es_rate: u32) -> Result<EsRate, Error> {
         ffi::es_rate_new(es_rate).map(EsRate::of)
     }
 
+    #[inline]
     fn of([value]: [u64; 1]) -> EsRate {
         EsRate(value as u32)
     }
 
     /// The rate in bytes a second.
     #[must_use]
+    #[inline]
     pub fn bytes_per_second(&self) -> u32 {
         let [rate] = sure(ffi::es_rate_bytes_per_second(self.0));
         rate as u32
@@ -354,6 +372,7 @@ impl EsRate {
 impl TryFrom<u32> for EsRate {
     type Error = Error;
 
+    #[inline]
     fn try_from(es_rate: u32) -> Result<EsRate, Error> {
         EsRate::new(es_rate)
     }
@@ -368,6 +387,7 @@ impl fmt::Display for EsRate {
 
 /// In units of 50 bytes a second.
 impl From<EsRate> for u32 {
+    #[inline]
     fn from(rate: EsRate) -> u32 {
         rate.0
     }
@@ -381,12 +401,14 @@ pub struct PesExtension<'buf> {
 
 impl<'buf> PesExtension<'buf> {
     /// Of parsed contents, and the extension's offset and length in them.
+    #[inline]
     fn of(contents: &'buf [u8], lies: [u64; 2]) -> PesExtension<'buf> {
         PesExtension { buf: part(contents, lies) }
     }
 
     /// The extension's bytes, with the stuffing after it.
     #[must_use]
+    #[inline]
     pub fn buffer(&self) -> &'buf [u8] {
         self.buf
     }
@@ -419,6 +441,7 @@ impl<'buf> PesParsedContents<'buf> {
     ///
     /// [`Error::ShortContents`], [`Error::BadCheckBits`], [`Error::HeaderPastBuffer`] or [`Error::FieldsPastHeader`] if the bytes are no
     /// contents, in this order.
+    #[inline]
     pub fn from_bytes(buf: &'buf [u8]) -> Result<PesParsedContents<'buf>, Error> {
         ffi::pes_contents_from_bytes(buf)?;
         Ok(PesParsedContents { buf })
@@ -426,42 +449,49 @@ impl<'buf> PesParsedContents<'buf> {
 
     /// 1 if the packet has priority over others, else 0.
     #[must_use]
+    #[inline]
     pub fn pes_priority(&self) -> u8 {
         byte(sure(ffi::pes_contents_pes_priority(self.buf)))
     }
 
     /// The scrambling bits of the payload.
     #[must_use]
+    #[inline]
     pub fn pes_scrambling_control(&self) -> u8 {
         byte(sure(ffi::pes_contents_pes_scrambling_control(self.buf)))
     }
 
     /// The flag byte.
     #[must_use]
+    #[inline]
     pub fn flags(&self) -> u8 {
         byte(sure(ffi::pes_contents_flags(self.buf)))
     }
 
     /// The length of the fields and of the stuffing after them.
     #[must_use]
+    #[inline]
     pub fn pes_header_data_len(&self) -> u8 {
         byte(sure(ffi::pes_contents_pes_header_data_len(self.buf)))
     }
 
     /// Whether an access unit begins with the payload.
     #[must_use]
+    #[inline]
     pub fn data_alignment_indicator(&self) -> DataAlignment {
         DataAlignment::of(sure(ffi::pes_contents_data_alignment_indicator(self.buf)))
     }
 
     /// The copyright bit, as mpeg2ts-reader reads it: 1 is undefined.
     #[must_use]
+    #[inline]
     pub fn copyright(&self) -> Copyright {
         Copyright::of(sure(ffi::pes_contents_copyright(self.buf)))
     }
 
     /// Whether the payload is an original or a copy.
     #[must_use]
+    #[inline]
     pub fn original_or_copy(&self) -> OriginalOrCopy {
         OriginalOrCopy::of(sure(ffi::pes_contents_original_or_copy(self.buf)))
     }
@@ -471,6 +501,7 @@ impl<'buf> PesParsedContents<'buf> {
     /// # Errors
     ///
     /// [`Error::FieldNotPresent`] if none is flagged, [`Error::PtsDtsFlagsInvalid`] if a DTS alone is.
+    #[inline]
     pub fn pts_dts(&self) -> Result<PtsDts, Error> {
         ffi::pes_contents_pts_dts(self.buf).and_then(PtsDts::of)
     }
@@ -480,6 +511,7 @@ impl<'buf> PesParsedContents<'buf> {
     /// # Errors
     ///
     /// [`Error::FieldNotPresent`] if it is not flagged.
+    #[inline]
     pub fn escr(&self) -> Result<ClockRef, Error> {
         ffi::pes_contents_escr(self.buf).map(ClockRef::of)
     }
@@ -489,6 +521,7 @@ impl<'buf> PesParsedContents<'buf> {
     /// # Errors
     ///
     /// [`Error::FieldNotPresent`] if it is not flagged.
+    #[inline]
     pub fn es_rate(&self) -> Result<EsRate, Error> {
         ffi::pes_contents_es_rate(self.buf).map(EsRate::of)
     }
@@ -498,6 +531,7 @@ impl<'buf> PesParsedContents<'buf> {
     /// # Errors
     ///
     /// [`Error::FieldNotPresent`] if it is not flagged.
+    #[inline]
     pub fn dsm_trick_mode(&self) -> Result<DsmTrickMode, Error> {
         ffi::pes_contents_dsm_trick_mode(self.buf).and_then(DsmTrickMode::of)
     }
@@ -507,6 +541,7 @@ impl<'buf> PesParsedContents<'buf> {
     /// # Errors
     ///
     /// [`Error::FieldNotPresent`] if it is not flagged.
+    #[inline]
     pub fn raw_trick_mode(&self) -> Result<u8, Error> {
         ffi::pes_contents_raw_trick_mode(self.buf).map(byte)
     }
@@ -516,6 +551,7 @@ impl<'buf> PesParsedContents<'buf> {
     /// # Errors
     ///
     /// [`Error::FieldNotPresent`] if it is not flagged, [`Error::MarkerBitNotSet`] with bit 0 if the bit before it is 0.
+    #[inline]
     pub fn additional_copy_info(&self) -> Result<u8, Error> {
         ffi::pes_contents_additional_copy_info(self.buf).map(byte)
     }
@@ -525,10 +561,12 @@ impl<'buf> PesParsedContents<'buf> {
     /// # Errors
     ///
     /// [`Error::FieldNotPresent`] if it is not flagged.
+    #[inline]
     pub fn previous_pes_packet_crc(&self) -> Result<u16, Error> {
         ffi::pes_contents_previous_pes_packet_crc(self.buf).map(PesParsedContents::crc)
     }
 
+    #[inline]
     fn crc([value]: [u64; 1]) -> u16 {
         value as u16
     }
@@ -538,12 +576,14 @@ impl<'buf> PesParsedContents<'buf> {
     /// # Errors
     ///
     /// [`Error::FieldNotPresent`] if it is not flagged.
+    #[inline]
     pub fn pes_extension(&self) -> Result<PesExtension<'buf>, Error> {
         ffi::pes_contents_pes_extension(self.buf).map(|lies| PesExtension::of(self.buf, lies))
     }
 
     /// The part of the payload that is in these bytes. It may be empty.
     #[must_use]
+    #[inline]
     pub fn payload(&self) -> &'buf [u8] {
         part(self.buf, sure(ffi::pes_contents_payload(self.buf)))
     }
@@ -561,6 +601,7 @@ impl<'buf> PesParsedContents<'buf> {
     /// # Ok::<(), Error>(())
     /// ```
     #[must_use]
+    #[inline]
     pub fn fields(&self) -> PesFields<'buf> {
         let mut row = sure(ffi::pes_contents_fields(self.buf));
         PesFields {
@@ -675,6 +716,7 @@ impl Timestamp {
     ///
     /// [`Error::WrongLength`] for fewer than 5 bytes, [`Error::IncorrectPrefixBits`] for other prefix bits,
     /// [`Error::MarkerBitNotSet`] if a marker bit is 0.
+    #[inline]
     pub fn from_pts_bytes(buf: &[u8]) -> Result<Timestamp, Error> {
         ffi::timestamp_from_pts_bytes(buf).map(Timestamp::of)
     }
@@ -685,6 +727,7 @@ impl Timestamp {
     ///
     /// [`Error::WrongLength`] for fewer than 5 bytes, [`Error::IncorrectPrefixBits`] for other prefix bits,
     /// [`Error::MarkerBitNotSet`] if a marker bit is 0.
+    #[inline]
     pub fn from_dts_bytes(buf: &[u8]) -> Result<Timestamp, Error> {
         ffi::timestamp_from_dts_bytes(buf).map(Timestamp::of)
     }
@@ -694,6 +737,7 @@ impl Timestamp {
     /// # Errors
     ///
     /// [`Error::WrongLength`] for fewer than 5 bytes, [`Error::MarkerBitNotSet`] if a marker bit is 0.
+    #[inline]
     pub fn from_bytes(buf: &[u8]) -> Result<Timestamp, Error> {
         ffi::timestamp_from_bytes(buf).map(Timestamp::of)
     }
@@ -703,16 +747,19 @@ impl Timestamp {
     /// # Errors
     ///
     /// [`Error::OutOfRange`] for 2^34 or more.
+    #[inline]
     pub fn from_u64(val: u64) -> Result<Timestamp, Error> {
         ffi::timestamp_from_u64(val).map(Timestamp::of)
     }
 
+    #[inline]
     pub(crate) fn of([value]: [u64; 1]) -> Timestamp {
         Timestamp { val: value }
     }
 
     /// Its number.
     #[must_use]
+    #[inline]
     pub fn value(self) -> u64 {
         self.val
     }
@@ -728,12 +775,14 @@ impl Timestamp {
     /// # Ok::<(), clomaverift::Error>(())
     /// ```
     #[must_use]
+    #[inline]
     pub fn since(self, earlier: Timestamp) -> u64 {
         self.val.wrapping_sub(earlier.val) % Timestamp::TICKS
     }
 
     /// The seconds since the clock was 0.
     #[must_use]
+    #[inline]
     pub fn as_seconds(self) -> f64 {
         self.val as f64 / Timestamp::TIMEBASE as f64
     }
@@ -747,6 +796,7 @@ impl Timestamp {
     /// # Ok::<(), clomaverift::Error>(())
     /// ```
     #[must_use]
+    #[inline]
     pub fn as_duration(self) -> Duration {
         duration(self.val, Timestamp::TIMEBASE)
     }
@@ -762,6 +812,7 @@ impl Timestamp {
     /// # Ok::<(), clomaverift::Error>(())
     /// ```
     #[must_use]
+    #[inline]
     pub fn likely_wrapped_since(self, since: Timestamp) -> bool {
         flag(sure(ffi::timestamp_likely_wrapped_since(self.val, since.val)))
     }
@@ -770,12 +821,14 @@ impl Timestamp {
 impl TryFrom<u64> for Timestamp {
     type Error = Error;
 
+    #[inline]
     fn try_from(val: u64) -> Result<Timestamp, Error> {
         Timestamp::from_u64(val)
     }
 }
 
 impl From<Timestamp> for u64 {
+    #[inline]
     fn from(time: Timestamp) -> u64 {
         time.val
     }
@@ -803,6 +856,7 @@ pub enum PtsDts {
 }
 
 impl PtsDts {
+    #[inline]
     fn of([kind, pts_number, pts, dts_number, dts]: [u64; 5]) -> Result<PtsDts, Error> {
         let pts = PtsDts::inner(pts_number, pts);
         match kind {
@@ -813,6 +867,7 @@ impl PtsDts {
     }
 
     /// A timestamp within an answer: its number, and its value or bit.
+    #[inline]
     fn inner(number: u64, value: u64) -> Result<Timestamp, Error> {
         match number {
             0 => Ok(Timestamp::of([value])),
@@ -823,6 +878,7 @@ impl PtsDts {
 
     /// The PTS, if it is not refused.
     #[must_use]
+    #[inline]
     pub fn pts(&self) -> Option<Timestamp> {
         match self {
             PtsDts::PtsOnly(pts) | PtsDts::Both { pts, .. } => pts.ok(),
@@ -831,6 +887,7 @@ impl PtsDts {
 
     /// The DTS, if there is one and it is not refused.
     #[must_use]
+    #[inline]
     pub fn dts(&self) -> Option<Timestamp> {
         match self {
             PtsDts::PtsOnly(_) => None,
@@ -849,6 +906,7 @@ pub enum DataAlignment {
 }
 
 impl DataAlignment {
+    #[inline]
     fn of([value]: [u64; 1]) -> DataAlignment {
         match value {
             0 => DataAlignment::NotAligned,
@@ -867,6 +925,7 @@ pub enum Copyright {
 }
 
 impl Copyright {
+    #[inline]
     fn of([value]: [u64; 1]) -> Copyright {
         match value {
             0 => Copyright::Protected,
@@ -888,6 +947,7 @@ pub enum OriginalOrCopy {
 }
 
 impl OriginalOrCopy {
+    #[inline]
     fn of([value]: [u64; 1]) -> OriginalOrCopy {
         match value {
             0 => OriginalOrCopy::Copy,
