@@ -77,15 +77,15 @@ say_oracle() {
 
 # A program of rust/ with the oracle in it, as target/NAME/libNAME.a: all but the library, so that another library costs a link. It has
 # the library's declarations, and may have modules of the differential.
-need_rust() { # NAME
+need_rust() { # NAME RUSTC-WORDS..
     local name=$1 archive=$target/$1/lib$1.a rustc
     need_oracle
-    up_to_date "$archive" "$top/rust/$name" "$top/rust/differential" "$top/rust/clomaverift/src/declarations.rs" "$target/oracle/mode" &&
+    up_to_date "$archive" "$top/rust/$name" "$top/rust/differential" "$top/rust/clomaverift/src" "$target/oracle/mode" &&
         return
     rustc=$(find_rustc)
     mkdir -p "$target/$name"
     "$rustc" --target "$triple" --crate-name "$name" --crate-type staticlib --edition 2021 -C opt-level=3 \
-        -L "dependency=$target/oracle" --extern "mpeg2ts_reader=$target/oracle/libmpeg2ts_reader.rlib" \
+        -L "dependency=$target/oracle" --extern "mpeg2ts_reader=$target/oracle/libmpeg2ts_reader.rlib" "${@:2}" \
         -o "$archive" "$top/rust/$name/main.rs" || fail "rust/$name cannot be built"
 }
 

@@ -44,6 +44,7 @@ mod sum;
 mod timestamp;
 #[path = "../differential/values.rs"]
 mod values;
+mod whole;
 mod writer;
 
 use calls::Function;
@@ -61,7 +62,8 @@ const FUNCTIONS: [Function; 6] = [
 fn rows(files: &[String]) -> Vec<Row> {
     let functions = FUNCTIONS.into_iter().flat_map(Function::rows);
     let recordings = files.iter().flat_map(|file| recording::rows(file));
-    functions.chain(recordings).chain([writer::row(), gathering::row()]).collect()
+    let whole = files.iter().map(|file| whole::row(file));
+    functions.chain(recordings).chain(whole).chain([writer::row(), gathering::row()]).collect()
 }
 
 /// The row of this number with its inputs made.

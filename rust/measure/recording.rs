@@ -25,7 +25,7 @@ pub fn rows(file: &str) -> [Row; 2] {
 }
 
 /// The name of a file and of the folder that it is in.
-fn short(file: &str) -> &str {
+pub fn short(file: &str) -> &str {
     file.rmatch_indices('/').nth(1).map_or(file, |(at, _)| &file[at + 1..])
 }
 
