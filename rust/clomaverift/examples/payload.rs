@@ -12,7 +12,7 @@ fn write_payload(file: &str, pid: &str) -> Result<(), Box<dyn Error>> {
     let mut payload = Vec::new();
     let mut keep = |found: Found<'_>| match found {
         Found::Unit(unit) => payload.extend(unit.payload),
-        Found::ContinuityError { index, .. } => eprintln!("packet {index}: the counter breaks"),
+        Found::ContinuityError { index, .. } => eprintln!("packet {index}: continuity error"),
         _ => (),
     };
     demux.push(&recording, &mut keep);

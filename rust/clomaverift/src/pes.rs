@@ -685,7 +685,7 @@ pub struct PesFields<'buf> {
     pub payload: &'buf [u8],
 }
 
-/// A timestamp of 33 bits, at 90 kHz. Its order is that of its number, also where the clock wrapped between two.
+/// A timestamp of 33 bits, at 90 kHz. Its order is that of its number: it does not see a wrap, [`Timestamp::since`] does.
 ///
 /// ```
 /// use clomaverift::{Error, Timestamp};
