@@ -37,6 +37,7 @@ WORDS = {
     "gather": ["the bytes of a unit,", "event by event"],
     "host_streams": ["what keeps the state", "of a stream"],
     "in_place": ["the steps over", "a lent state"],
+    "units": ["the bytes of a unit,", "over any run"],
     "capacity": ["what is written reads back,", "in the fewest packets"],
     "examples": ["worked examples"],
 }

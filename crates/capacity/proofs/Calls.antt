@@ -13,7 +13,7 @@ use Rattle.log.specs.Entry.{eventValues, readEntry}
 use Rattle.machine.specs.Run.{packetsIn, shifted}
 use Rattle.gather.specs.Belongs.{eventBytes}
 use Rattle.gather.specs.Gather.{wrongEvent, added, next, notGathered, numberOf, gatherOf, storeOf}
-use Rattle.gather.specs.Units.{Standing, packetOf, answered, called, gatherAll, answers, bytesAt, lastOf, Inside}
+use Rattle.units.specs.Units.{Standing, packetOf, answered, called, gatherAll, answers, bytesAt, lastOf, Inside}
 use Rattle.capacity.specs.Reads.{begins, continues, upToBegin, Segment, segment, segments}
 use Rattle.capacity.specs.ReadBack.{none, eventRead, eventsRead, packetAt, call, afterCall, callNumbers, afterCalls}
 use Rattle.machine.proofs.Theorems.{chunk-at}

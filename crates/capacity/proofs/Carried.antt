@@ -21,7 +21,7 @@ use Rattle.machine.specs.Events.{asCounter, State, state, headAccepted, eventWi
 use Rattle.gather.specs.Belongs.{eventBytes}
 use Rattle.writer.specs.Packets.{carrier, carried}
 use Rattle.machine.specs.Run.{IsPacket}
-use Rattle.gather.specs.Units.{bytesAt, bytesAtAll}
+use Rattle.units.specs.Units.{bytesAt, bytesAtAll}
 use Rattle.capacity.specs.Reads.{upToBegin, segment, segments}
 use Rattle.capacity.specs.Demand.{Before, endOf, continuesOf, eventsWritten, Counters}
 use Rattle.capacity.proofs.Carrier.{start-back, pid-back, flag-back, counter-back, content-back, payload-back, rest-back, part-back}

@@ -15,8 +15,9 @@ use Rattle.machine.specs.Events.{State, atStart, run}
 use Rattle.machine.specs.Step.{stateOf}
 use Rattle.machine.specs.Run.{shifted}
 use Rattle.machine.proofs.Theorems.{run-shift}
-use Rattle.gather.specs.Units.{Standing, gatherAll, answers, readAt, bytesAt, bytesAtAll, unitBytes, lastOf, GatheringStands, Taken, Open}
-use Rattle.gather.proofs.Theorems.{own-payload, gather-append, taken-append, gathering-open}
+use Rattle.units.specs.Units.{Standing, gatherAll, answers, readAt, bytesAt, bytesAtAll, unitBytes, lastOf, GatheringStands, Taken, Open}
+use Rattle.gather.proofs.Theorems.{own-payload}
+use Rattle.units.proofs.Theorems.{gather-append, taken-append, gathering-open}
 use Rattle.writer.specs.declared.Route.{Route}
 use Rattle.writer.specs.declared.Unit.{Unit}
 use Rattle.writer.specs.Unit.{dataOf, countOf}

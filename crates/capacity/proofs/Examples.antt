@@ -32,7 +32,7 @@ use Rattle.writer.specs.declared.Unit.{Unit}
 use Rattle.writer.specs.Unit.{dataOf, statedLength, countOf}
 use Rattle.writer.specs.Writer.{routeTests, unitTests, sizeTests, writeOf}
 use Rattle.gather.specs.Gather.{emptied, wrongGathering}
-use Rattle.gather.specs.Units.{standing, bytesAt}
+use Rattle.units.specs.Units.{standing, bytesAt}
 use Rattle.capacity.specs.Reads.{upToBegin, segment, segments, HasFields, Delivers}
 use Rattle.capacity.specs.Demand.{Permitted, Accepts, countGiven, outputBytes, continuesOf, eventsWritten}
 use Rattle.capacity.specs.ReadBack.{ReadBack}

@@ -10,8 +10,8 @@ use Rattle.machine.specs.declared.Phase.{Phase}
 use Rattle.machine.specs.declared.Phase.the-variants.{Begin, Started, IgnoreRest}
 use Rattle.machine.specs.Events.{eventAlone, atStart}
 use Rattle.machine.specs.Run.{IsPacket}
-use Rattle.gather.specs.Units.{Standing, gatherAll, answers, Inside, GatheringStands, Kind, Taken}
-use Rattle.gather.proofs.Theorems.{start-leaves, end-keeps, all-good}
+use Rattle.units.specs.Units.{Standing, gatherAll, answers, Inside, GatheringStands, Kind, Taken}
+use Rattle.units.proofs.Theorems.{start-leaves, end-keeps, all-good}
 use Rattle.writer.specs.declared.Route.{Route}
 use Rattle.writer.specs.declared.Unit.{Unit}
 use Rattle.writer.specs.Unit.{countOf}

@@ -30,7 +30,7 @@ use Rattle.writer.specs.declared.Times.the-variants.{Untimed, Pts, Both}
 use Rattle.writer.specs.declared.Escr.{Escr}
 use Rattle.writer.specs.declared.Unit.{Unit}
 use Rattle.writer.specs.Unit.{Field, absent, holds, rateField, byteField, crcField, escrFlag, fieldFlag, timesBytes, dataOf, countOf}
-use Rattle.gather.specs.Units.{bytesAt, bytesAtAll}
+use Rattle.units.specs.Units.{bytesAt, bytesAtAll}
 use Rattle.capacity.specs.Reads.{begins, continues, upToBegin, Segment, segment, segments, givenTimes, givenEscr, givenField}
 use Rattle.capacity.specs.Reads.{contents, HasFields, Gives}
 

@@ -24,9 +24,9 @@ use Rattle.machine.specs.Step.{stateOf, Stands}
 use Rattle.machine.specs.Run.{reportOf, ranLog, IsPacket, Logged}
 use Rattle.machine.proofs.Theorems.{run-logged}
 use Rattle.gather.specs.Gather.{readOf, heldBytes}
-use Rattle.gather.specs.Units.{Standing, packetOf, gatherAll, answers, readAt, bytesAt, lastOf, Inside, GatheringStands, Taken, Open}
+use Rattle.units.specs.Units.{Standing, packetOf, gatherAll, answers, readAt, bytesAt, lastOf, Inside, GatheringStands, Taken, Open}
 use Rattle.gather.proofs.Laws.{read-done}
-use Rattle.gather.proofs.Theorems.{packet-there}
+use Rattle.units.proofs.Theorems.{packet-there}
 use Rattle.writer.specs.declared.Route.{Route}
 use Rattle.writer.specs.declared.Unit.{Unit}
 use Rattle.writer.specs.Unit.{dataOf, countOf}

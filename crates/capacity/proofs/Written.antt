@@ -19,7 +19,7 @@ use Rattle.writer.specs.Unit.{dataOf, countOf}
 use Rattle.writer.specs.Packets.{headerImage, carried, packetsOf}
 use Rattle.writer.proofs.Laws.{header-length}
 use Rattle.machine.specs.Run.{IsPacket}
-use Rattle.gather.specs.Units.{bytesAt, bytesAtAll}
+use Rattle.units.specs.Units.{bytesAt, bytesAtAll}
 use Rattle.capacity.specs.Reads.{Segment, segment, segments, Gives}
 use Rattle.capacity.specs.Demand.{Permitted, Ready, endOf, continuesOf, eventsWritten, Counters}
 use Rattle.capacity.proofs.Permits.{RouteFits, UnitFits, route-fits, unit-fits}

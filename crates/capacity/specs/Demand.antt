@@ -20,7 +20,7 @@ use Rattle.writer.specs.declared.Route.{Route}
 use Rattle.writer.specs.declared.Unit.{Unit}
 use Rattle.writer.specs.Unit.{byteField, crcField, Field, absent, holds, dataOf, statedLength, countOf}
 use Rattle.writer.specs.Writer.{allOf, routeTests, unitTests, sizeTests, writeOf, outputOf}
-use Rattle.gather.specs.Units.{bytesAt}
+use Rattle.units.specs.Units.{bytesAt}
 use Rattle.capacity.specs.Reads.{Delivers}
 
 -- ---- what is permitted

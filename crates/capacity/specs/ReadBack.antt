@@ -13,7 +13,7 @@ use Rattle.machine.specs.declared.Machine.{Machine}
 use Rattle.machine.specs.Run.{packetsIn, reportOf, ranLog}
 use Rattle.gather.specs.Belongs.{eventBytes}
 use Rattle.gather.specs.Gather.{Outcome, gatherOf, storeOf, readOf, heldBytes}
-use Rattle.gather.specs.Units.{Standing, standing, lastOf, Taken}
+use Rattle.units.specs.Units.{Standing, standing, lastOf, Taken}
 use Rattle.writer.specs.declared.Route.{Route}
 use Rattle.writer.specs.declared.Unit.{Unit}
 use Rattle.writer.specs.Unit.{dataOf}

@@ -16,7 +16,7 @@ use Rattle.log.specs.declared.Event.{Event}
 use Rattle.log.specs.Entry.{beginPacket, continuePacket}
 use Rattle.machine.specs.Events.{State, run}
 use Rattle.machine.specs.Run.{IsPacket}
-use Rattle.gather.specs.Units.{bytesAt, bytesAtAll}
+use Rattle.units.specs.Units.{bytesAt, bytesAtAll}
 use Rattle.writer.specs.declared.Times.{Times}
 use Rattle.writer.specs.declared.Times.the-variants.{Untimed, Pts, Both}
 use Rattle.writer.specs.declared.Escr.{Escr}

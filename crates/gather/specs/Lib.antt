@@ -1,4 +1,3 @@
 pub mod Belongs
 pub mod Gather
 pub mod Row
-pub mod Units

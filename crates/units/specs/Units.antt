@@ -1,4 +1,4 @@
--- For theorems: the calls over the events of a list of packets, and the bytes of a unit.
+-- The calls over the events of a list of packets, and the bytes of a unit.
 use mathlib.Core.Path.{_≡_}
 use mathlib.Core.Bool.{true, false}
 use mathlib.Core.List.{List, [], _∷_, _++_}

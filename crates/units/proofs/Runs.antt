@@ -10,19 +10,19 @@ use native.Mathlib.Omega.{arith}
 use lib.ListN.{length, drop}
 use Rattle.bits.specs.Answer.{pick, All}
 use Rattle.packet.specs.Packet.{contentAt, payloadThere}
+use Rattle.packet.proofs.Laws.{payload-below}
 use Rattle.log.specs.declared.Event.{Event}
 use Rattle.log.specs.Entry.{event}
 use Rattle.machine.specs.declared.Phase.{Phase}
 use Rattle.machine.specs.declared.Phase.the-variants.{Begin, Started, IgnoreRest}
 use Rattle.machine.specs.Events.{State, startFlag, headAccepted, continuous, settled, broken, atStart, begun, continued, eventsOf}
 use Rattle.machine.specs.Events.{phaseAfter, next, run}
-use Rattle.packet.proofs.Laws.{payload-below}
-use Rattle.gather.specs.declared.Lies.the-variants.{Store}
-use Rattle.gather.specs.Gather.{gathering, emptied}
-use Rattle.gather.specs.Units.{Standing, called, gatherAll, answers, readAt, unitBytes}
 use Rattle.machine.specs.Run.{IsPacket}
-use Rattle.gather.specs.Units.{Inside, GatheringStands, Kind, Known, NoBegin, Quiet, Some, Taken}
-use Rattle.gather.proofs.Theorems.{gather-append, gathered, break-cuts, none-read, stays-good, all-good}
+use Rattle.gather.specs.declared.Lies.the-variants.{Store}
+use Rattle.gather.specs.Gather.{gathering, emptied}
+use Rattle.units.specs.Units.{Standing, called, gatherAll, answers, readAt, unitBytes}
+use Rattle.units.specs.Units.{Inside, GatheringStands, Kind, Known, NoBegin, Quiet, Some, Taken}
+use Rattle.units.proofs.Theorems.{gather-append, gathered, break-cuts, none-read, stays-good, all-good}
 
 -- ---- the events of a run: each of a known kind, of a packet that is there, with a part that lies in it
 
