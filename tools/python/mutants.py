@@ -5,8 +5,8 @@
 
 A word is a crate, CRATE/NAME or NAME. Tried are the wrong answers of crates/*/must-fail and of tools/mutants.txt that change what is
 compiled into an archive: the crate is one that the archives are built from, the file is under src/, and more than promises is changed. Left
-out is also one whose library is byte for byte the unchanged one, as no comparison can tell the two apart: its function is in no archive, or
-what it answers is never looked at. A driver that fails or hangs has caught a wrong answer too.
+out is also one whose library is byte for byte the unchanged one, as no comparison can tell the two apart: no entry calls its function, or
+none can see what it answers. A driver that fails or hangs has caught a wrong answer too.
 
 The prover refuses such a library, so its crates are compiled with no proof, as 'rt try' does it: an archive's crate stands in a copy of the
 crates as a program with an empty main, and the toolchain's clang is one that keeps the module which it is handed. The exported functions
