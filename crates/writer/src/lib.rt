@@ -300,21 +300,57 @@ fn count_of(fields: u8, size: usize) -> usize
 
 // ---- the header
 
+const BIT_10: u64 = 1 << 10;
+
+const BIT_11: u64 = 1 << 11;
+
+const BIT_15: u64 = 1 << 15;
+
+const BIT_16: u64 = 1 << 16;
+
+const BIT_17: u64 = 1 << 17;
+
+const BIT_22: u32 = 1 << 22;
+
+const BIT_23: u32 = 1 << 23;
+
+const BIT_24: u64 = 1 << 24;
+
+const BIT_26: u64 = 1 << 26;
+
+const BIT_27: u64 = 1 << 27;
+
+const BIT_30: u64 = 1 << 30;
+
+const BIT_32: u64 = 1 << 32;
+
+const BIT_33: u64 = 1 << 33;
+
+const BIT_36: u64 = 1 << 36;
+
+const BIT_40: u64 = 1 << 40;
+
+const BIT_42: u64 = 1 << 42;
+
+const BIT_43: u64 = 1 << 43;
+
+const TOP_2_OF_48: u64 = 3 << 46;
+
 // A time in five bytes, after a prefix of 4 bits.
 fn stamp(prefix: u8, time: u64) -> [u8; 5]
     ensures { λ r. ⌜ r ≡ stampBytes prefix time ⌝ }
 {
-    let n = wide(prefix % 16) * 68719476736
-        + time / 1073741824 % 8 * 8589934592
-        + 4294967296
-        + time / 32768 % 32768 * 131072
-        + 65536
-        + time % 32768 * 2
+    let n = wide(prefix % 16) * BIT_36
+        + time / BIT_30 % 8 * BIT_33
+        + BIT_32
+        + time / BIT_15 % BIT_15 * BIT_17
+        + BIT_16
+        + time % BIT_15 * 2
         + 1;
     [
-        (n / 4294967296 % 256) as u8,
-        (n / 16777216 % 256) as u8,
-        (n / 65536 % 256) as u8,
+        (n / BIT_32 % 256) as u8,
+        (n / BIT_24 % 256) as u8,
+        (n / BIT_16 % 256) as u8,
         (n / 256 % 256) as u8,
         (n % 256) as u8,
     ]
@@ -323,20 +359,20 @@ fn stamp(prefix: u8, time: u64) -> [u8; 5]
 fn escr_bytes(base: u64, extension: u16) -> [u8; 6]
     ensures { λ r. ⌜ r ≡ escrBytes base extension ⌝ }
 {
-    let n = 211106232532992
-        + base / 1073741824 % 8 * 8796093022208
-        + 4398046511104
-        + base / 32768 % 32768 * 134217728
-        + 67108864
-        + base % 32768 * 2048
-        + 1024
+    let n = TOP_2_OF_48
+        + base / BIT_30 % 8 * BIT_43
+        + BIT_42
+        + base / BIT_15 % BIT_15 * BIT_27
+        + BIT_26
+        + base % BIT_15 * BIT_11
+        + BIT_10
         + (extension % 512) as u64 * 2
         + 1;
     [
-        (n / 1099511627776 % 256) as u8,
-        (n / 4294967296 % 256) as u8,
-        (n / 16777216 % 256) as u8,
-        (n / 65536 % 256) as u8,
+        (n / BIT_40 % 256) as u8,
+        (n / BIT_32 % 256) as u8,
+        (n / BIT_24 % 256) as u8,
+        (n / BIT_16 % 256) as u8,
         (n / 256 % 256) as u8,
         (n % 256) as u8,
     ]
@@ -345,7 +381,7 @@ fn escr_bytes(base: u64, extension: u16) -> [u8; 6]
 fn rate_bytes(units: u32) -> [u8; 3]
     ensures { λ r. ⌜ r ≡ esRateBytes units ⌝ }
 {
-    let n = 8388608 + units % 4194304 * 2 + 1;
+    let n = BIT_23 + units % BIT_22 * 2 + 1;
     [
         (n / 65536 % 256) as u8,
         (n / 256 % 256) as u8,
