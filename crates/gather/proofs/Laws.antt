@@ -16,6 +16,7 @@ use Rattle.bits.proofs.Bools.{both, not-both, tested, neither-holds}
 use Rattle.bits.proofs.Checks.{ne-other, eq-other, firstOf-first, firstOf-past}
 use Rattle.bits.proofs.Parts.{part-in, part-cut, part-length, part-of-part, part-refused, part-done, placed-none, placed-out, front}
 use Rattle.packet.specs.Packet.{notPacket}
+use Rattle.packet.proofs.Laws.{packet-off}
 use Rattle.pes_header.specs.declared.PayloadRead.{PayloadRead}
 use Rattle.pes_header.specs.Payload.{givenPayload, headerPayload, payloadBytes}
 use Rattle.pes_header.proofs.PayloadRead.{the-type as payload-type}
@@ -102,21 +103,16 @@ module _ (g : Gathering) (room : ℕ) where
       lies-in-packet : ltb 188 (a + g .count) ≡ wrongGathering g room
       lies-in-packet = ap (λ (l : Lies). leavesPacket l (g .count)) (sym e) ∙ in-store
 
-      pub past-packet : 188 < a → true ≡ wrongGathering g room
-      past-packet k = sym (lt-ltb 188 (a + g .count) (omega arith)) ∙ lies-in-packet
+      pub place-past : 188 < a → true ≡ wrongGathering g room
+      place-past k = sym (lt-ltb 188 (a + g .count) (omega arith)) ∙ lies-in-packet
 
       pub packet-tested : a ≤ 188 → ltb (188 - a) (g .count) ≡ wrongGathering g room
       packet-tested k = moved-bound a (g .count) 188 k ∙ lies-in-packet
 
-  -- what is known of a state that is not refused
-  pub gathering-stands : wrongGathering g room ≡ false → (g .count ≤ room) × (leavesPacket (g .lies) (g .count) ≡ false)
-  unfolding wrongGathering
-  gathering-stands h =
-      let a = neither-holds (ltb room (g .count)) (leavesPacket (g .lies) (g .count)) h in
-      (ltb-false room (g .count) (a .0), a .1)
-
+  -- what is known of a state that is not refused, and the other way
   pub count-inside : wrongGathering g room ≡ false → g .count ≤ room
-  count-inside h = gathering-stands h .0
+  unfolding wrongGathering
+  count-inside h = ltb-false room (g .count) (neither-holds (ltb room (g .count)) (leavesPacket (g .lies) (g .count)) h .0)
 
   pub stands-gathering : g .count ≤ room → leavesPacket (g .lies) (g .count) ≡ false → wrongGathering g room ≡ false
   stands-gathering h k = sym (in-store h) ∙ k
@@ -131,9 +127,8 @@ module _ (p : List ℕ) (cs : List Check) where
   unfolding notPacket
   unsynced l h = firstOf-first (notPacket p ++ cs) 1 (eq-other (length p) 188 l, tt) (ne-other (getD p 0 0) 71 h)
 
-  past-packet-checks : length p ≡ 188 → getD p 0 0 ≡ 71 → firstOf (notPacket p ++ cs) ≡ firstOf cs
-  unfolding notPacket
-  past-packet-checks l h = firstOf-past (notPacket p) cs (eq-other (length p) 188 l, (eq-other (getD p 0 0) 71 h, tt))
+  past-packet : length p ≡ 188 → getD p 0 0 ≡ 71 → firstOf (notPacket p ++ cs) ≡ firstOf cs
+  past-packet l h = firstOf-past (notPacket p) cs (packet-off p l h)
 
 -- ---- the bytes so far
 
@@ -148,11 +143,11 @@ module _ (g : Gathering) (p s : List ℕ) where
 
   pub read-out : length p ≡ 188 → getD p 0 0 ≡ 71 → wrongGathering g (length s) ≡ true → 14 ≡ readOf g p s
   unfolding readOf notRead
-  read-out l h e = sym (past-packet-checks p _ l h ∙ rw e)
+  read-out l h e = sym (past-packet p _ l h ∙ rw e)
 
   pub read-done : length p ≡ 188 → getD p 0 0 ≡ 71 → wrongGathering g (length s) ≡ false → 0 ≡ readOf g p s
   unfolding readOf notRead
-  read-done l h e = sym (past-packet-checks p _ l h ∙ rw e)
+  read-done l h e = sym (past-packet p _ l h ∙ rw e)
 
   pub bytes-are : (l : Lies) (r : List ℕ) → readOf g p s ≡ 0 → g .lies ≡ l → r ≡ lying l (g .count) p s → r ≡ heldBytes g p s
   unfolding heldBytes
@@ -184,13 +179,6 @@ module _ (g : Gathering) (e : Event) where
 
   pub kept-other : (e .kind ≡ 2 → ⊥) → kept g e ≡ g .count
   kept-other k = simp (ne-eqb (e .kind) 2 k)
-
-  kept-least : kept g e ≤ g .count
-  kept-least = go (eqb (e .kind) 2)
-    where
-      go : (t : Bool) → pick t 0 (g .count) ≤ g .count
-      go true = omega arith
-      go false = omega arith
 
 -- a part of a packet, as the borrow checker has it
 abbrev cut : ℕ → ℕ → List ℕ → List ℕ
@@ -367,23 +355,20 @@ module _ (g : Gathering) (p : List ℕ) (e : Event) (s : List ℕ) where
     module _ (y : getD p 0 0 ≡ 71) where
       pub bad-event : wrongEvent e ≡ true → Meets g p e s (outcome 14 g) s
       unfolding numberOf notGathered
-      bad-event h = refused 14 (past-packet-checks p _ l y ∙ rw h) refl refl
+      bad-event h = refused 14 (past-packet p _ l y ∙ rw h) refl refl
 
       pub bad-gathering : wrongEvent e ≡ false → wrongGathering g (length s) ≡ true → Meets g p e s (outcome 14 g) s
       unfolding numberOf notGathered
-      bad-gathering h k = refused 14 (past-packet-checks p _ l y ∙ rw (h, k)) refl refl
+      bad-gathering h k = refused 14 (past-packet p _ l y ∙ rw (h, k)) refl refl
 
   module _ (h : CallStands g p e s) where
     number-full : length s < kept g e + length (added g p e) → numberOf g p e s ≡ 20
     unfolding numberOf notGathered
-    number-full k = past-packet-checks p _ (h .0) (h .1) ∙ rw (h .2, h .3, lt-ltb (length s) (kept g e + length (added g p e)) k)
+    number-full k = past-packet p _ (h .0) (h .1) ∙ rw (h .2, h .3, lt-ltb (length s) (kept g e + length (added g p e)) k)
 
     pub number-done : kept g e + length (added g p e) ≤ length s → numberOf g p e s ≡ 0
     unfolding numberOf notGathered
-    number-done k = past-packet-checks p _ (h .0) (h .1) ∙ rw (h .2, h .3, le-ltb (length s) (kept g e + length (added g p e)) k)
-
-    pub kept-inside : kept g e ≤ length s
-    kept-inside = omega (arith, kept-least g e, gathering-stands g (length s) (h .3) .0)
+    number-done k = past-packet p _ (h .0) (h .1) ∙ rw (h .2, h .3, le-ltb (length s) (kept g e + length (added g p e)) k)
 
     pub full : length s < kept g e + length (added g p e) → Meets g p e s (outcome 20 emptied) s
     unfolding gatherOf storeOf
@@ -457,4 +442,4 @@ pub ruleset apply-laws = (named-end, named-short, count-inside, own-end, own-sho
 
 pub ruleset call-laws = (none-outcome, none-store, open-outcome, open-store, begin-outcome, begin-store, needs)
 
-pub ruleset gather-laws = (kind-none, kind-past, part-tested, past-store, lies-in-store, past-packet, packet-tested, read-length, read-sync, read-out, read-done, bytes-refused, bytes-packet, bytes-store, rest-start, rest-break, rest-closed, extends-not, extends-open, full-is, appended-full, appended-done, none-placed, front-length, front-placed, tested, needs)
+pub ruleset gather-laws = (kind-none, kind-past, part-tested, past-store, lies-in-store, place-past, packet-tested, read-length, read-sync, read-out, read-done, bytes-refused, bytes-packet, bytes-store, rest-start, rest-break, rest-closed, extends-not, extends-open, full-is, appended-full, appended-done, none-placed, front-length, front-placed, tested, needs)

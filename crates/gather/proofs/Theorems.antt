@@ -79,7 +79,7 @@ module _ (g : Gathering) (p : List ℕ) (e : Event) (s : List ℕ) where
   room-there : numberOf g p e s ≡ 0 → kept g e + length (added g p e) ≤ length s
   unfolding numberOf notGathered notPacket
   room-there z =
-      let h = firstOf-off (notGathered g p e s) (omega arith, (omega arith, (omega arith, (omega arith, (omega arith, tt))))) z in
+      let h = firstOf-off (notGathered g p e s) (omega arith) z in
       ltb-false (length s) (kept g e + length (added g p e)) (h .1 .1 .1 .1 .0)
 
   pub only-added : (length (storeOf g p e s) ≡ length s)

@@ -16,7 +16,7 @@ use Rattle.gather.specs.declared.Lies.the-variants.{Packet, Store}
 use Rattle.gather.specs.declared.Gathering.{Gathering}
 use Rattle.gather.specs.Belongs.{eventBytes, ownPlace, ownBytes}
 use Rattle.gather.specs.Gather.{gathering, emptied, wrongEvent, wrongGathering, kept, added, next, Outcome, heldBytes, CallStands}
-use Rattle.gather.proofs.Laws.{part-tested, stands-gathering, gathering-stands, read-done, bytes-are, event-part, added-begin, added-open}
+use Rattle.gather.proofs.Laws.{part-tested, stands-gathering, count-inside, read-done, bytes-are, event-part, added-begin, added-open}
 use Rattle.gather.proofs.Laws.{added-closed, added-none, kept-begin, kept-other, next-start, next-begin, next-continue, next-end, next-break, number-done, full, taken}
 use Rattle.gather.proofs.Theorems.{own-part}
 use Rattle.units.specs.Units.{Standing, standing, packetOf, answered, called, gatherAll, answers, readAt, bytesAt, bytesAtAll}
@@ -130,7 +130,7 @@ module _ (ps : List (List ℕ)) (all : All IsPacket ps) (t : Standing) (e : Even
       → (answered ps t e .number ≡ 0) × (called ps t e ≡ standing (next (t .gathering) (packetOf ps e) e) (t .store))
   nothing-added k ok b j =
       let d : kept (t .gathering) e ≡ t .gathering .count = kept-other (t .gathering) e b in
-      let r : t .gathering .count ≤ length (t .store) = gathering-stands (t .gathering) (length (t .store)) ok .0 in
+      let r : t .gathering .count ≤ length (t .store) = count-inside (t .gathering) (length (t .store)) ok in
       let c = accepted ps all t e k i ok (rw (d, ← j) (omega arith)) in
       (c .0, c .1 ∙ rw (d, ← j, ← placed-none (t .store) (t .gathering .count)))
 
@@ -271,7 +271,7 @@ next-good : (g : Gathering) (p : List ℕ) (e : Event) (n : ℕ) → Known e →
 next-good g p e n k l h ok r = go (eqb (e .kind) 1) refl (eqb (e .kind) 2) refl (eqb (e .kind) 3) refl (eqb (e .kind) 4) refl
   where
     o : g .count ≤ n
-    o = gathering-stands g n ok .0
+    o = count-inside g n ok
 
     go : (t₁ : Bool) → eqb (e .kind) 1 ≡ t₁ → (t₂ : Bool) → eqb (e .kind) 2 ≡ t₂
         → (t₃ : Bool) → eqb (e .kind) 3 ≡ t₃ → (t₄ : Bool) → eqb (e .kind) 4 ≡ t₄ → wrongGathering (next g p e) n ≡ false

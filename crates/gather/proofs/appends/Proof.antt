@@ -1,3 +1,4 @@
+-- What stands at the front of the array is what was put there (`front-placed`); so the store has it behind what stays.
 use Rattle.gather.proofs.Laws.{front-length, gather-laws}
 use Rattle.gather.proofs.appends.Statement.{statement}
 use Rattle.gather.proofs.appends.Tie as tie

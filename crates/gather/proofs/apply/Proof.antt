@@ -1,3 +1,4 @@
+-- A continue of an open unit, a begin, and any other event: each has a law for the outcome and one for the store.
 use Rattle.gather.proofs.Laws.{call-laws, apply-laws}
 use Rattle.gather.proofs.apply.Statement.{statement}
 use Rattle.gather.proofs.apply.Tie as tie

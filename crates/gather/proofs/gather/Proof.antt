@@ -1,3 +1,4 @@
+-- The refusals in their order; what passes them all is left to `apply`.
 use Rattle.bits.proofs.Bools.{tested}
 use Rattle.gather.proofs.Laws.{wrong-length, no-sync, bad-event, bad-gathering, gather-laws}
 use Rattle.gather.proofs.gather.Statement.{statement}
