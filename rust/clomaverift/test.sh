@@ -1,7 +1,8 @@
 #!/usr/bin/env bash
 # rust/clomaverift/test.sh : builds the crate over the archives of target/staticlib, by rustc alone, with and without std, and runs its
-# tests: those of its modules, of tests/, of its documentation, and the examples on the sample stream. An archive that is missing is
-# built first. On a machine other than x86-64 the tests run under Debian's qemu-user; if it is not installed they are only built.
+# tests: those of its modules, of tests/, of its documentation, what its build script says, and the examples on the sample stream. An
+# archive that is missing is built first. On a machine other than x86-64 the tests run under Debian's qemu-user; if it is not installed
+# they are only built.
 set -euo pipefail
 # shellcheck source-path=SCRIPTDIR source=../../tools/common.sh
 . "$(dirname "$0")/../../tools/common.sh"
@@ -32,6 +33,7 @@ build_all() {
     build src/lib.rs no_std.rlib --crate-name clomaverift --crate-type rlib "${libraries[@]}"
     build src/lib.rs libclomaverift.rlib --crate-name clomaverift --crate-type rlib "${std[@]}" "${libraries[@]}"
     build src/lib.rs modules --crate-name clomaverift --test "${std[@]}" "${libraries[@]}"
+    build build.rs build_script
     for name in "${tests[@]}"; do
         build "tests/$name.rs" "$name" --test "${crate[@]}"
     done
@@ -53,6 +55,29 @@ run_examples_of_documentation() {
     echo "documentation: $(grep '^test result' "$out/said")"
 }
 
+# The build script with this environment. It fails, if it does, with one line.
+run_build_script() { # VARIABLE=VALUE..
+    env -u CLOMAVERIFT_LIBRARY -u RUSTC_LINKER TARGET="$triple" HOST="$triple" RUSTC="$rustc" "$@" \
+        "${runner[@]}" "$out/build_script" 2>"$out/said" >"$out/linked"
+}
+
+says() { # WORDS VARIABLE=VALUE..
+    if run_build_script "${@:2}"; then
+        fail "the build script does not stop: ${*:2}"
+    fi
+    [ "$(wc -l <"$out/said") $(grep -cF "clomaverift: $1" "$out/said")" = '1 1' ] || fail "the build script says: $(cat "$out/said")"
+}
+
+check_build_script() {
+    says 'the archives are for x86-64 and the target is aarch64-' TARGET=aarch64-unknown-linux-gnu
+    says '/nowhere has no libhost.a, libhost_streams.a, libhost_whole.a: ' CLOMAVERIFT_LIBRARY=/nowhere
+    says 'no linker for x86-64 is named: ' HOST=aarch64-unknown-linux-gnu
+    says 'the linker none-such is missing: ' HOST=aarch64-unknown-linux-gnu RUSTC_LINKER=none-such
+    run_build_script CLOMAVERIFT_LIBRARY= || fail "the build script stops: $(cat "$out/said")"
+    [ "$(grep -c '^cargo:rustc-link-lib=static=' "$out/linked")" -eq "${#parts[@]}" ] || fail "the build script does not link the archives"
+    echo "build script: says what is missing"
+}
+
 run_examples() {
     local bytes
     "${runner[@]}" "$out/times" "$top/samples/sample.ts" 2>/dev/null | diff "$here/examples/times.txt" - || fail "the example times prints something else"
@@ -72,4 +97,5 @@ for name in modules "${tests[@]}"; do
     run_tests "$name"
 done
 run_examples_of_documentation
+check_build_script
 run_examples
