@@ -33,7 +33,7 @@
 //! assert_eq!(contents.pts_dts()?, PtsDts::PtsOnly(Timestamp::from_u64(90_000)));
 //! # Ok::<(), clomaverift::Error>(())
 //! ```
-
+//!
 //! # From mpeg2ts-reader
 //!
 //! What has changed since mpeg2ts-reader 0.18.2. Every other method of `packet` and `pes` has the name and the signature that it has there.
@@ -41,6 +41,7 @@
 //!
 //! | mpeg2ts-reader 0.18.2 | here |
 //! |---|---|
+//! | `AdaptationFieldError`, `PesError`, `TimestampError` | one [`Error`], with the names of their cases |
 //! | **packet** | |
 //! | `Packet::new(&[u8]) -> Packet`, which asserts | left out: `Packet::try_new(..)?` |
 //! | `Packet::try_new(&[u8]) -> Option<Packet>`, which asserts 188 bytes | `-> Result<Packet, Error>` |
@@ -72,6 +73,7 @@
 //! | `ElementaryStreamConsumer`: `start_stream`, `begin_packet`, `continue_packet`, `end_packet`, `continuity_error` | an [`Event`] with the [`EventKind`] of that name, or [`Found`] |
 //! | **demultiplex and the rest** | |
 //! | `Demultiplex::new(&mut ctx)`, `push(&mut ctx, &[u8])` | [`Demux::new()`], [`Demux::push`] with a closure that takes each [`Found`] |
+//! | `push` drops packets that are marked as damaged or scrambled, and logs it | drops them too, unless [`Demux::marked`] says otherwise |
 //! | `push` ends at a packet without sync byte | that packet is [`Found::Refused`], and the next one is taken |
 //! | bytes after the last whole packet are ignored | they are [`Found::Refused`] |
 //! | `PacketFilter`, `NullPacketFilter`, `DemuxContext`, `FilterChangeset`, `FilterChange`, `FilterRequest`, `demux_context!`, `packet_filter_switch!` | [`Demux::only`] names the PIDs |
