@@ -1,4 +1,4 @@
--- What the entries over a row report, in each case.
+-- What the entries report, in each case.
 -- Assumes nothing.
 use mathlib.Core.Path.{_≡_, refl, sym, ap, _∙_}
 use mathlib.Core.Bool.{Bool, true, false, not}
@@ -6,7 +6,8 @@ use mathlib.Core.List.{List, [], _∷_}
 use Prim.Native.Nat.{ℕ}
 use lib.Dec.{eqb}
 use lib.ListN.{length, getD}
-use borrow.Author.Tests.{eq-eqb, ne-eqb, eqb-true}
+use borrow.Author.Needs.{needs}
+use borrow.Author.Tests.{eq-eqb, ne-eqb}
 use Rattle.bits.specs.Answer.{Answer, answer, pick, firstOf, other}
 use Rattle.machine.specs.declared.Machine.{Machine}
 use Rattle.machine.specs.declared.row.RowRead.{RowRead}
@@ -17,7 +18,17 @@ use Rattle.machine.proofs.Rows.{stray-number}
 use Rattle.machine.specs.Row.{machineOf, rowOf, stepBy, rowStep, rowStepOf, runBy, rowRun, rowRunOf}
 use Rattle.log.specs.declared.Event.{Event}
 use Rattle.host.specs.Reports.{Reports}
-use Rattle.host.proofs.Laws.{reports, reports-as}
+use Rattle.host.proofs.Laws.{reports, reports-as, reports-of, host-laws}
+use Rattle.machine.proofs.Laws.{step-length, step-sync, step-state, run-length, run-state}
+use Rattle.writer.specs.declared.Route.{Route}
+use Rattle.writer.specs.declared.Times.{Times}
+use Rattle.writer.specs.declared.Escr.{Escr}
+use Rattle.writer.specs.declared.Rate.{Rate}
+use Rattle.writer.specs.declared.Byte.{Byte}
+use Rattle.writer.specs.declared.Crc.{Crc}
+use Rattle.writer.specs.declared.Unit.{Unit as WrittenUnit}
+use Rattle.writer.specs.declared.Written.{Written}
+use Rattle.writer.specs.Writer.{givenWritten, writeOf, outputOf}
 use Rattle.gather.specs.declared.Lies.{Lies}
 use Rattle.gather.specs.declared.Gathering.{Gathering}
 use Rattle.gather.specs.declared.HeldRead.{HeldRead}
@@ -94,9 +105,9 @@ strayed-reports : (p : List ℕ) {lent : List ℕ} → Reports (answer (firstOf 
 strayed-reports p {lent} = rw (stray-number p) (go (other (length p) 188) (other (getD p 0 0) 0x47))
   where
     go : (a b : Bool) → let n : ℕ = pick a 1 (pick b 2 14) in Reports (answer n []) n lent lent
-    go true b = reports (refl, refl)
-    go false true = reports (refl, refl)
-    go false false = reports (refl, refl)
+    go true b = reports refl refl
+    go false true = reports refl refl
+    go false false = reports refl refl
 
 module _ (r : gather-row.RowRead) (xs p s : List ℕ) (of : r ≡ store.gatheringOf xs) where
   held-by : store.heldBy r p s ≡ store.rowHeld xs p s
@@ -105,8 +116,7 @@ module _ (r : gather-row.RowRead) (xs p s : List ℕ) (of : r ≡ store.gatherin
 
   pub held-strayed : {w : ℕ} {lent : List ℕ} → r ≡ gather-row.RowRead.Stray → w ≡ firstOf (notTaken p true []) → Reports (store.rowHeld xs p s) w lent lent
   held-strayed {w} e f =
-      let q : store.rowHeld xs p s ≡ answer (firstOf (notTaken p true [])) []
-      = sym (ap (λ (k : ℕ). answer k []) (judged-alike p) ∙ (ap (λ (t : gather-row.RowRead). store.heldBy t p s) (sym e) ∙ held-by)) in
+      let q = ap (λ (k : ℕ). answer k []) (judged-alike p) ∙ (ap (λ (t : gather-row.RowRead). store.heldBy t p s) (sym e) ∙ held-by) in
       rw f (reports-as q (strayed-reports p))
 
   -- the answer of a state by what its bytes' reading gives
@@ -115,13 +125,60 @@ module _ (r : gather-row.RowRead) (xs p s : List ℕ) (of : r ≡ store.gatherin
         → Reports (pick (eqb (gather.givenHeld k) 0) (answer 0 (store.partValues (g .lies) (g .count))) (answer (gather.givenHeld k) [])) w lent left
         → Reports (store.rowHeld xs p s) w lent left
     held-reports k q t =
-        reports-as (sym (ap (λ (z : ℕ). pick (eqb z 0) (answer 0 (store.partValues (g .lies) (g .count))) (answer z [])) (ap gather.givenHeld (sym q) ∙ f)
-        ∙ (ap (λ (t : gather-row.RowRead). store.heldBy t p s) (sym e) ∙ held-by))) t
+        reports-as (ap (λ (z : ℕ). pick (eqb z 0) (answer 0 (store.partValues (g .lies) (g .count))) (answer z [])) (ap gather.givenHeld (sym q) ∙ f)
+        ∙ (ap (λ (t : gather-row.RowRead). store.heldBy t p s) (sym e) ∙ held-by)) t
 
     -- the bytes of a packet, and those of a store
     module _ (x y z : ℕ) (q : h ≡ HeldRead.Done) where
       pub held-in-packet : (a : ℕ) → g .lies ≡ Lies.Packet a → Reports (store.rowHeld xs p s) 0 (x ∷ y ∷ z ∷ []) (0 ∷ a ∷ g .count ∷ [])
-      held-in-packet a e = held-reports HeldRead.Done q (reports (refl, rw e))
+      held-in-packet a e = held-reports HeldRead.Done q (reports refl (rw e))
 
       pub held-in-store : g .lies ≡ Lies.Store → Reports (store.rowHeld xs p s) 0 (x ∷ y ∷ z ∷ []) (1 ∷ 0 ∷ g .count ∷ [])
-      held-in-store e = held-reports HeldRead.Done q (reports (refl, rw e))
+      held-in-store e = held-reports HeldRead.Done q (reports refl (rw e))
+
+-- ---- the writer
+
+abbrev made : ℕ → Bool → Bool → Bool → Bool → Bool → Times → Escr → Rate → Byte → Byte → Crc → WrittenUnit
+made i b p a c o t e r k y s = record {
+  id = i;
+  bounded = b;
+  priority = p;
+  alignment = a;
+  copyright = c;
+  original = o;
+  times = t;
+  escr = e;
+  rate = r;
+  trick = k;
+  copy = y;
+  crc = s;
+}
+
+-- a unit of the fields that calls give is that of the fields that they ensure
+module _ (q : Route) (i : ℕ) (b p a c o : Bool) (t t′ : Times) (e e′ : Escr) (r r′ : Rate) (k k′ y y′ : Byte) (s s′ : Crc) (xs ys : List ℕ)
+    (et : t ≡ t′) (ee : e ≡ e′) (er : r ≡ r′) (ek : k ≡ k′) (ey : y ≡ y′) (es : s ≡ s′) where
+  same : made i b p a c o t e r k y s ≡ made i b p a c o t′ e′ r′ k′ y′ s′
+  same = rw (et, ee, er, ek, ey, es)
+
+  pub written-reports : (w v : Written) (n : ℕ) (lent left : List ℕ) → givenWritten w ≡ writeOf q (made i b p a c o t e r k y s) xs ys → w ≡ v
+      → Reports (givenWritten v) n lent left → Reports (writeOf q (made i b p a c o t′ e′ r′ k′ y′ s′) xs ys) n lent left
+  written-reports w v n lent left g f h = reports-of givenWritten (g ∙ ap (λ (u : WrittenUnit). writeOf q u xs ys) same) f h
+
+  pub written-output : (zs : List ℕ) → zs ≡ outputOf q (made i b p a c o t e r k y s) xs ys → zs ≡ outputOf q (made i b p a c o t′ e′ r′ k′ y′ s′) xs ys
+  written-output zs g = g ∙ ap (λ (u : WrittenUnit). outputOf q u xs ys) same
+
+-- ---- what `search` is given: for a number that chooses, for a row that stands for nothing, and for each entry
+
+pub ruleset chosen-laws = (eq-eqb, ne-eqb, needs)
+
+pub ruleset stray-laws = (step-length, step-sync, step-state, needs)
+
+pub ruleset step-laws = (step-taken, step-refused, step-strayed, needs)
+
+pub ruleset run-laws = (run-done, run-refused, run-strayed, run-length, run-state, needs)
+
+pub ruleset gathered-laws = (gather-moves, gather-stays, gather-strayed, needs)
+
+pub ruleset held-laws = (held-in-packet, held-in-store, held-reports, held-strayed, host-laws)
+
+pub ruleset written-laws = (written-reports, written-output, host-laws)
