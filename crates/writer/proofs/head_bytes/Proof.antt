@@ -1,3 +1,4 @@
+-- The nine bytes have the number of the table's rows, and each row's value is within its width.
 use Rattle.writer.proofs.Laws.{header-laws}
 use Rattle.writer.proofs.head_bytes.Statement.{statement}
 use Rattle.writer.proofs.head_bytes.Tie as tie

@@ -1,3 +1,4 @@
+-- Each field is placed where the one before it ends, so that together they are the header.
 use Rattle.writer.proofs.Laws.{header-laws}
 use Rattle.writer.proofs.header.Statement.{statement}
 use Rattle.writer.proofs.header.Tie as tie

@@ -1,3 +1,4 @@
+-- Whether the id is parsed is what the crate pes answers of it.
 use Rattle.writer.proofs.Laws.{tests-laws}
 use Rattle.writer.proofs.id_fits.Statement.{statement}
 use Rattle.writer.proofs.id_fits.Tie as tie

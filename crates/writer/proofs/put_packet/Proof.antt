@@ -1,3 +1,4 @@
+-- The image is the packet, and both its parts in the output are the packet there.
 use Rattle.writer.proofs.Laws.{packet-laws}
 use Rattle.writer.proofs.put_packet.Statement.{statement}
 use Rattle.writer.proofs.put_packet.Tie as tie

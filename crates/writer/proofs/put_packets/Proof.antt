@@ -1,6 +1,6 @@
+-- The first packet has the header and the first bytes of the payload, and `put_rest` what is left of it: `packets-made` joins them to the packets of the unit.
 use mathlib.Core.Path.{refl}
-use Rattle.writer.proofs.Laws.{packets-made}
-use Rattle.writer.proofs.Laws.{packets-laws}
+use Rattle.writer.proofs.Laws.{packets-made, packets-laws}
 use Rattle.writer.proofs.put_packets.Statement.{statement}
 use Rattle.writer.proofs.put_packets.Tie as tie
 

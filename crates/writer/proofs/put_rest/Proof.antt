@@ -3,8 +3,7 @@ use mathlib.Core.Path.{_≡_, refl}
 use Prim.Native.Nat.{_+_, _*_, _≤_, _<_}
 use native.Mathlib.Omega.{arith}
 use lib.ListN.{length}
-use Rattle.writer.proofs.Laws.{rest}
-use Rattle.writer.proofs.Laws.{rest-laws}
+use Rattle.writer.proofs.Laws.{rest, rest-laws}
 use Rattle.writer.proofs.put_rest.Statement.{statement}
 use Rattle.writer.proofs.put_rest.Tie as tie
 

@@ -1,3 +1,4 @@
+-- Bytes that are placed are those of the field; no bytes where there is none.
 use Rattle.writer.proofs.Laws.{field-laws}
 use Rattle.writer.proofs.put_times.Statement.{statement}
 use Rattle.writer.proofs.put_times.Tie as tie

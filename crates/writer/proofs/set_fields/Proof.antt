@@ -1,3 +1,4 @@
+-- The image is FF, so each store is seen in it: three cases, by how much the payload leaves for an adaptation field.
 use native.Mathlib.Omega.{arith}
 use lib.ListN.{length-set}
 use Rattle.writer.proofs.Laws.{packet-laws}

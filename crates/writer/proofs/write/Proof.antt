@@ -1,7 +1,7 @@
+-- Each answer is that of the first list that fails, by what the functions before it answered; a refusal leaves the output as it was lent.
 use native.Mathlib.Omega.{arith}
-use Rattle.writer.proofs.Laws.{lent, left, route-pid, route-counter, size-payload, size-stated, room}
+use Rattle.writer.proofs.Laws.{lent, left, route-pid, route-counter, size-payload, size-stated, room, write-laws}
 use borrow.Author.Needs.{needs}
-use Rattle.writer.proofs.Laws.{write-laws}
 use Rattle.writer.proofs.write.Statement.{statement}
 use Rattle.writer.proofs.write.Tie as tie
 
