@@ -61,41 +61,6 @@ enum {
 /* The bytes of a packet. */
 #define CMV_PACKET_SIZE 188
 
-/* ---- Clock references, counters, PIDs and the control bits of a packet's fourth byte. */
-
-/* ClockRef::from_slice */
-uint32_t cmv_clock_ref_from_slice(const uint8_t *buf, size_t buf_len, uint64_t *base, uint64_t *extension);
-
-/* ClockRef::from_parts, and its two values */
-uint32_t cmv_clock_ref_from_parts(uint64_t b, uint16_t e, uint64_t *base, uint64_t *extension);
-
-/* ClockRef::into_u64, of two numbers that are a clock reference */
-uint32_t cmv_clock_ref_into_u64(uint64_t base, uint16_t extension, uint64_t *number);
-
-/* ClockRef::eq, of two pairs of numbers that are clock references */
-uint32_t cmv_clock_ref_eq(uint64_t base, uint16_t extension, uint64_t base2, uint16_t extension2, uint64_t *same);
-
-/* ContinuityCounter::new, and its count */
-uint32_t cmv_continuity_counter_new(uint8_t count, uint64_t *value);
-
-/* ContinuityCounter::follows, of two numbers that are counters */
-uint32_t cmv_continuity_counter_follows(uint8_t count, uint8_t other, uint64_t *follows);
-
-/* Pid::new, and its number */
-uint32_t cmv_pid_new(uint16_t pid, uint64_t *value);
-
-/* Pid::try_from, and its number */
-uint32_t cmv_pid_try_from(uint16_t pid, uint64_t *value);
-
-/* AdaptationControl::has_adaptation_field and has_payload */
-uint32_t cmv_adaptation_control(uint8_t byte, uint64_t *field, uint64_t *payload);
-
-/* TransportScramblingControl::is_scrambled and scheme */
-uint32_t cmv_transport_scrambling_control(uint8_t byte, uint64_t *scrambled, uint64_t *scheme);
-
-/* Pid::MAX_VALUE and Pid::PID_COUNT */
-uint32_t cmv_control_constants(uint64_t *max, uint64_t *count);
-
 /* ---- The adaptation field and its extension, each without its length byte. */
 
 /* adaptation::discontinuity_indicator */
@@ -130,61 +95,6 @@ uint32_t cmv_adaptation_extension_piecewise_rate(const uint8_t *buf, size_t buf_
 
 /* adaptation::extension::seamless_splice */
 uint32_t cmv_adaptation_extension_seamless_splice(const uint8_t *buf, size_t buf_len, uint64_t *splice, uint64_t *dts);
-
-/* ---- Heads of PES packets. */
-
-/* pes::from_bytes */
-uint32_t cmv_pes_header_from_bytes(const uint8_t *buf, size_t buf_len);
-
-/* pes::stream_id: kind C0 hex audio and E0 hex video, each with the low five bits of the id; kind 0 an id below BC hex, with the id. Any
-   other kind is the id itself, with 0: in hex BC program stream map, BD private stream 1, BE padding, BF private stream 2, F0 ECM, F1
-   EMM, F2 DSM-CC, F3 ISO 13522, F4 to F8 H.222.1 types A to E, F9 ancillary, FA SL-packetized, FB FlexMux, FC metadata, FD extended
-   stream id, FE reserved data, FF program stream directory. */
-uint32_t cmv_pes_header_stream_id(const uint8_t *buf, size_t buf_len, uint64_t *kind, uint64_t *low);
-
-/* pes::pes_packet_length: kind 0 unbounded, kind 1 bounded */
-uint32_t cmv_pes_header_pes_packet_length(const uint8_t *buf, size_t buf_len, uint64_t *kind, uint64_t *length);
-
-/* pes::contents: kind 0 bare payload, kind 1 parsed contents, and where they lie */
-uint32_t cmv_pes_header_contents(const uint8_t *buf, size_t buf_len, uint64_t *kind, uint64_t *place, uint64_t *length);
-
-/* ---- Packets. */
-
-/* packet::is_sync_byte */
-uint32_t cmv_packet_is_sync_byte(uint8_t b, uint64_t *is);
-
-/* packet::try_new */
-uint32_t cmv_packet_try_new(const uint8_t *buf, size_t buf_len);
-
-/* packet::transport_error_indicator */
-uint32_t cmv_packet_transport_error_indicator(const uint8_t *buf, size_t buf_len, uint64_t *value);
-
-/* packet::payload_unit_start_indicator */
-uint32_t cmv_packet_payload_unit_start_indicator(const uint8_t *buf, size_t buf_len, uint64_t *value);
-
-/* packet::transport_priority */
-uint32_t cmv_packet_transport_priority(const uint8_t *buf, size_t buf_len, uint64_t *value);
-
-/* packet::pid */
-uint32_t cmv_packet_pid(const uint8_t *buf, size_t buf_len, uint64_t *value);
-
-/* packet::transport_scrambling_control */
-uint32_t cmv_packet_transport_scrambling_control(const uint8_t *buf, size_t buf_len, uint64_t *scrambled, uint64_t *scheme);
-
-/* packet::adaptation_control */
-uint32_t cmv_packet_adaptation_control(const uint8_t *buf, size_t buf_len, uint64_t *field, uint64_t *payload);
-
-/* packet::continuity_counter */
-uint32_t cmv_packet_continuity_counter(const uint8_t *buf, size_t buf_len, uint64_t *value);
-
-/* packet::adaptation_field_at: where what adaptation_field gives lies */
-uint32_t cmv_packet_adaptation_field(const uint8_t *buf, size_t buf_len, uint64_t *place, uint64_t *length);
-
-/* packet::payload_at: where what payload gives lies */
-uint32_t cmv_packet_payload(const uint8_t *buf, size_t buf_len, uint64_t *place, uint64_t *length);
-
-/* packet::SYNC_BYTE and packet::SIZE */
-uint32_t cmv_packet_constants(uint64_t *sync, uint64_t *size);
 
 /* ---- What follows the head of a PES packet that carries parsed contents. */
 
@@ -250,6 +160,96 @@ uint32_t cmv_es_rate_new(uint32_t rate, uint64_t *value);
 /* EsRate::bytes_per_second, of a number that is a rate */
 uint32_t cmv_es_rate_bytes_per_second(uint32_t rate, uint64_t *value);
 
+/* ---- Clock references, counters, PIDs and the control bits of a packet's fourth byte. */
+
+/* ClockRef::from_slice */
+uint32_t cmv_clock_ref_from_slice(const uint8_t *buf, size_t buf_len, uint64_t *base, uint64_t *extension);
+
+/* ClockRef::from_parts, and its two values */
+uint32_t cmv_clock_ref_from_parts(uint64_t b, uint16_t e, uint64_t *base, uint64_t *extension);
+
+/* ClockRef::into_u64, of two numbers that are a clock reference */
+uint32_t cmv_clock_ref_into_u64(uint64_t base, uint16_t extension, uint64_t *number);
+
+/* ClockRef::eq, of two pairs of numbers that are clock references */
+uint32_t cmv_clock_ref_eq(uint64_t base, uint16_t extension, uint64_t base2, uint16_t extension2, uint64_t *same);
+
+/* ContinuityCounter::new, and its count */
+uint32_t cmv_continuity_counter_new(uint8_t count, uint64_t *value);
+
+/* ContinuityCounter::follows, of two numbers that are counters */
+uint32_t cmv_continuity_counter_follows(uint8_t count, uint8_t other, uint64_t *follows);
+
+/* Pid::new, and its number */
+uint32_t cmv_pid_new(uint16_t pid, uint64_t *value);
+
+/* Pid::try_from, and its number */
+uint32_t cmv_pid_try_from(uint16_t pid, uint64_t *value);
+
+/* AdaptationControl::has_adaptation_field and has_payload */
+uint32_t cmv_adaptation_control(uint8_t byte, uint64_t *field, uint64_t *payload);
+
+/* TransportScramblingControl::is_scrambled and scheme */
+uint32_t cmv_transport_scrambling_control(uint8_t byte, uint64_t *scrambled, uint64_t *scheme);
+
+/* Pid::MAX_VALUE and Pid::PID_COUNT */
+uint32_t cmv_control_constants(uint64_t *max, uint64_t *count);
+
+/* ---- Packets. */
+
+/* packet::is_sync_byte */
+uint32_t cmv_packet_is_sync_byte(uint8_t b, uint64_t *is);
+
+/* packet::try_new */
+uint32_t cmv_packet_try_new(const uint8_t *buf, size_t buf_len);
+
+/* packet::transport_error_indicator */
+uint32_t cmv_packet_transport_error_indicator(const uint8_t *buf, size_t buf_len, uint64_t *value);
+
+/* packet::payload_unit_start_indicator */
+uint32_t cmv_packet_payload_unit_start_indicator(const uint8_t *buf, size_t buf_len, uint64_t *value);
+
+/* packet::transport_priority */
+uint32_t cmv_packet_transport_priority(const uint8_t *buf, size_t buf_len, uint64_t *value);
+
+/* packet::pid */
+uint32_t cmv_packet_pid(const uint8_t *buf, size_t buf_len, uint64_t *value);
+
+/* packet::transport_scrambling_control */
+uint32_t cmv_packet_transport_scrambling_control(const uint8_t *buf, size_t buf_len, uint64_t *scrambled, uint64_t *scheme);
+
+/* packet::adaptation_control */
+uint32_t cmv_packet_adaptation_control(const uint8_t *buf, size_t buf_len, uint64_t *field, uint64_t *payload);
+
+/* packet::continuity_counter */
+uint32_t cmv_packet_continuity_counter(const uint8_t *buf, size_t buf_len, uint64_t *value);
+
+/* packet::adaptation_field_at: where what adaptation_field gives lies */
+uint32_t cmv_packet_adaptation_field(const uint8_t *buf, size_t buf_len, uint64_t *place, uint64_t *length);
+
+/* packet::payload_at: where what payload gives lies */
+uint32_t cmv_packet_payload(const uint8_t *buf, size_t buf_len, uint64_t *place, uint64_t *length);
+
+/* packet::SYNC_BYTE and packet::SIZE */
+uint32_t cmv_packet_constants(uint64_t *sync, uint64_t *size);
+
+/* ---- Heads of PES packets. */
+
+/* pes::from_bytes */
+uint32_t cmv_pes_header_from_bytes(const uint8_t *buf, size_t buf_len);
+
+/* pes::stream_id: kind C0 hex audio and E0 hex video, each with the low five bits of the id; kind 0 an id below BC hex, with the id. Any
+   other kind is the id itself, with 0: in hex BC program stream map, BD private stream 1, BE padding, BF private stream 2, F0 ECM, F1
+   EMM, F2 DSM-CC, F3 ISO 13522, F4 to F8 H.222.1 types A to E, F9 ancillary, FA SL-packetized, FB FlexMux, FC metadata, FD extended
+   stream id, FE reserved data, FF program stream directory. */
+uint32_t cmv_pes_header_stream_id(const uint8_t *buf, size_t buf_len, uint64_t *kind, uint64_t *low);
+
+/* pes::pes_packet_length: kind 0 unbounded, kind 1 bounded */
+uint32_t cmv_pes_header_pes_packet_length(const uint8_t *buf, size_t buf_len, uint64_t *kind, uint64_t *length);
+
+/* pes::contents: kind 0 bare payload, kind 1 parsed contents, and where they lie */
+uint32_t cmv_pes_header_contents(const uint8_t *buf, size_t buf_len, uint64_t *kind, uint64_t *place, uint64_t *length);
+
 /* ---- Timestamps. */
 
 /* Timestamp::from_pts_bytes */
@@ -307,11 +307,12 @@ uint32_t cmv_write(uint16_t pid, uint8_t counter, uint8_t id, uint8_t bounded, u
     uint8_t rate_there, uint32_t rate, uint8_t trick_there, uint8_t trick, uint8_t copy_there, uint8_t copy, uint8_t crc_there,
     uint16_t crc, const uint8_t *payload, size_t payload_len, uint8_t *out, size_t out_len, uint64_t *count);
 
-/* ---- Heads of PES packets at one call. */
+/* ---- Parsed contents of a PES packet at one call. */
 
-/* kind and low of the stream id, as cmv_pes_header_stream_id gives them; kind and length of PES_packet_length; kind, place and length of
-   what follows the head. fields: 7 numbers */
-uint32_t cmv_pes_header_fields(const uint8_t *buf, size_t buf_len, uint64_t fields[7]);
+/* scrambling control, priority, alignment, copyright, original, the flags and the header data length; then the word and the numbers of
+   each of PTS and DTS, ESCR, ES rate, trick mode, raw trick mode, copy info, CRC and extension; then place and length of the payload.
+   fields: 34 numbers */
+uint32_t cmv_pes_contents_fields(const uint8_t *buf, size_t buf_len, uint64_t fields[34]);
 
 /* ---- Packets at one call. */
 
@@ -319,12 +320,11 @@ uint32_t cmv_pes_header_fields(const uint8_t *buf, size_t buf_len, uint64_t fiel
    word, place and length of the adaptation field, and of the payload. fields: 15 numbers */
 uint32_t cmv_packet_fields(const uint8_t *packet, size_t packet_len, uint64_t fields[15]);
 
-/* ---- Parsed contents of a PES packet at one call. */
+/* ---- Heads of PES packets at one call. */
 
-/* scrambling control, priority, alignment, copyright, original, the flags and the header data length; then the word and the numbers of
-   each of PTS and DTS, ESCR, ES rate, trick mode, raw trick mode, copy info, CRC and extension; then place and length of the payload.
-   fields: 34 numbers */
-uint32_t cmv_pes_contents_fields(const uint8_t *buf, size_t buf_len, uint64_t fields[34]);
+/* kind and low of the stream id, as cmv_pes_header_stream_id gives them; kind and length of PES_packet_length; kind, place and length of
+   what follows the head. fields: 7 numbers */
+uint32_t cmv_pes_header_fields(const uint8_t *buf, size_t buf_len, uint64_t fields[7]);
 
 #ifdef __cplusplus
 }

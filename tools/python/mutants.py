@@ -36,10 +36,10 @@ WORDS = {"u8": "i8", "u16": "i16", "u32": "i32", "u64": "i64", "usize": "i64"}
 
 # The module of the driver that most likely sees a wrong answer of a crate, or of a file of the exported functions. It looks first.
 LIKELY = {
-    "timestamp": "timestamp", "timestamps": "timestamp", "control": "control", "clocks": "control", "packet": "packet", "packets": "packet",
-    "adaptation": "adaptation", "fields": "adaptation", "pes": "head", "heads": "head", "contents": "contents", "parsed": "contents",
-    "log": "machine", "machine": "machine", "machines": "machine", "writer": "writer", "writing": "writer", "pes_header": "gather",
-    "gather": "gather", "gathering": "gather",
+    "timestamp": "timestamp", "of_timestamp": "timestamp", "control": "control", "of_control": "control", "packet": "packet", "of_packet": "packet",
+    "adaptation": "adaptation", "of_adaptation": "adaptation", "pes": "head", "of_pes": "head", "contents": "contents", "of_contents": "contents",
+    "log": "machine", "machine": "machine", "of_machine": "machine", "writer": "writer", "of_writer": "writer", "pes_header": "gather",
+    "gather": "gather", "of_gather": "gather",
 }  # fmt: skip
 
 

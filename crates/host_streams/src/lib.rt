@@ -9,9 +9,9 @@ use host::numbers::NO_SYNC;
 use host::numbers::OUT_OF_RANGE;
 use host::numbers::WRONG_LENGTH;
 
-pub mod gathering;
-pub mod machines;
-pub mod writing;
+pub mod of_gather;
+pub mod of_machine;
+pub mod of_writer;
 
 // What a row that stands for no state is refused with, beside a packet: 14 is judged after 1 and 2.
 fn strayed(packet: &[u8]) -> u32

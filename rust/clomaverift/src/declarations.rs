@@ -12,17 +12,6 @@ pub const ARCHIVES: [&str; 3] = ["host", "host_streams", "host_whole"];
 // libhost.a
 #[rustfmt::skip]
 extern "C" {
-    pub fn cmv_clock_ref_from_slice(buf: *const u8, buf_len: usize, base: *mut u64, extension: *mut u64) -> u32;
-    pub fn cmv_clock_ref_from_parts(b: u64, e: u16, base: *mut u64, extension: *mut u64) -> u32;
-    pub fn cmv_clock_ref_into_u64(base: u64, extension: u16, number: *mut u64) -> u32;
-    pub fn cmv_clock_ref_eq(base: u64, extension: u16, base2: u64, extension2: u16, same: *mut u64) -> u32;
-    pub fn cmv_continuity_counter_new(count: u8, value: *mut u64) -> u32;
-    pub fn cmv_continuity_counter_follows(count: u8, other: u8, follows: *mut u64) -> u32;
-    pub fn cmv_pid_new(pid: u16, value: *mut u64) -> u32;
-    pub fn cmv_pid_try_from(pid: u16, value: *mut u64) -> u32;
-    pub fn cmv_adaptation_control(byte: u8, field: *mut u64, payload: *mut u64) -> u32;
-    pub fn cmv_transport_scrambling_control(byte: u8, scrambled: *mut u64, scheme: *mut u64) -> u32;
-    pub fn cmv_control_constants(max: *mut u64, count: *mut u64) -> u32;
     pub fn cmv_adaptation_field_discontinuity_indicator(buf: *const u8, buf_len: usize, value: *mut u64) -> u32;
     pub fn cmv_adaptation_field_random_access_indicator(buf: *const u8, buf_len: usize, value: *mut u64) -> u32;
     pub fn cmv_adaptation_field_elementary_stream_priority_indicator(
@@ -48,33 +37,6 @@ extern "C" {
         splice: *mut u64,
         dts: *mut u64,
     ) -> u32;
-    pub fn cmv_pes_header_from_bytes(buf: *const u8, buf_len: usize) -> u32;
-    pub fn cmv_pes_header_stream_id(buf: *const u8, buf_len: usize, kind: *mut u64, low: *mut u64) -> u32;
-    pub fn cmv_pes_header_pes_packet_length(buf: *const u8, buf_len: usize, kind: *mut u64, length: *mut u64) -> u32;
-    pub fn cmv_pes_header_contents(
-        buf: *const u8,
-        buf_len: usize,
-        kind: *mut u64,
-        place: *mut u64,
-        length: *mut u64,
-    ) -> u32;
-    pub fn cmv_packet_is_sync_byte(b: u8, is: *mut u64) -> u32;
-    pub fn cmv_packet_try_new(buf: *const u8, buf_len: usize) -> u32;
-    pub fn cmv_packet_transport_error_indicator(buf: *const u8, buf_len: usize, value: *mut u64) -> u32;
-    pub fn cmv_packet_payload_unit_start_indicator(buf: *const u8, buf_len: usize, value: *mut u64) -> u32;
-    pub fn cmv_packet_transport_priority(buf: *const u8, buf_len: usize, value: *mut u64) -> u32;
-    pub fn cmv_packet_pid(buf: *const u8, buf_len: usize, value: *mut u64) -> u32;
-    pub fn cmv_packet_transport_scrambling_control(
-        buf: *const u8,
-        buf_len: usize,
-        scrambled: *mut u64,
-        scheme: *mut u64,
-    ) -> u32;
-    pub fn cmv_packet_adaptation_control(buf: *const u8, buf_len: usize, field: *mut u64, payload: *mut u64) -> u32;
-    pub fn cmv_packet_continuity_counter(buf: *const u8, buf_len: usize, value: *mut u64) -> u32;
-    pub fn cmv_packet_adaptation_field(buf: *const u8, buf_len: usize, place: *mut u64, length: *mut u64) -> u32;
-    pub fn cmv_packet_payload(buf: *const u8, buf_len: usize, place: *mut u64, length: *mut u64) -> u32;
-    pub fn cmv_packet_constants(sync: *mut u64, size: *mut u64) -> u32;
     pub fn cmv_pes_contents_from_bytes(buf: *const u8, buf_len: usize) -> u32;
     pub fn cmv_pes_contents_pes_priority(buf: *const u8, buf_len: usize, value: *mut u64) -> u32;
     pub fn cmv_pes_contents_pes_scrambling_control(buf: *const u8, buf_len: usize, value: *mut u64) -> u32;
@@ -109,6 +71,44 @@ extern "C" {
     pub fn cmv_pes_contents_payload(buf: *const u8, buf_len: usize, place: *mut u64, length: *mut u64) -> u32;
     pub fn cmv_es_rate_new(rate: u32, value: *mut u64) -> u32;
     pub fn cmv_es_rate_bytes_per_second(rate: u32, value: *mut u64) -> u32;
+    pub fn cmv_clock_ref_from_slice(buf: *const u8, buf_len: usize, base: *mut u64, extension: *mut u64) -> u32;
+    pub fn cmv_clock_ref_from_parts(b: u64, e: u16, base: *mut u64, extension: *mut u64) -> u32;
+    pub fn cmv_clock_ref_into_u64(base: u64, extension: u16, number: *mut u64) -> u32;
+    pub fn cmv_clock_ref_eq(base: u64, extension: u16, base2: u64, extension2: u16, same: *mut u64) -> u32;
+    pub fn cmv_continuity_counter_new(count: u8, value: *mut u64) -> u32;
+    pub fn cmv_continuity_counter_follows(count: u8, other: u8, follows: *mut u64) -> u32;
+    pub fn cmv_pid_new(pid: u16, value: *mut u64) -> u32;
+    pub fn cmv_pid_try_from(pid: u16, value: *mut u64) -> u32;
+    pub fn cmv_adaptation_control(byte: u8, field: *mut u64, payload: *mut u64) -> u32;
+    pub fn cmv_transport_scrambling_control(byte: u8, scrambled: *mut u64, scheme: *mut u64) -> u32;
+    pub fn cmv_control_constants(max: *mut u64, count: *mut u64) -> u32;
+    pub fn cmv_packet_is_sync_byte(b: u8, is: *mut u64) -> u32;
+    pub fn cmv_packet_try_new(buf: *const u8, buf_len: usize) -> u32;
+    pub fn cmv_packet_transport_error_indicator(buf: *const u8, buf_len: usize, value: *mut u64) -> u32;
+    pub fn cmv_packet_payload_unit_start_indicator(buf: *const u8, buf_len: usize, value: *mut u64) -> u32;
+    pub fn cmv_packet_transport_priority(buf: *const u8, buf_len: usize, value: *mut u64) -> u32;
+    pub fn cmv_packet_pid(buf: *const u8, buf_len: usize, value: *mut u64) -> u32;
+    pub fn cmv_packet_transport_scrambling_control(
+        buf: *const u8,
+        buf_len: usize,
+        scrambled: *mut u64,
+        scheme: *mut u64,
+    ) -> u32;
+    pub fn cmv_packet_adaptation_control(buf: *const u8, buf_len: usize, field: *mut u64, payload: *mut u64) -> u32;
+    pub fn cmv_packet_continuity_counter(buf: *const u8, buf_len: usize, value: *mut u64) -> u32;
+    pub fn cmv_packet_adaptation_field(buf: *const u8, buf_len: usize, place: *mut u64, length: *mut u64) -> u32;
+    pub fn cmv_packet_payload(buf: *const u8, buf_len: usize, place: *mut u64, length: *mut u64) -> u32;
+    pub fn cmv_packet_constants(sync: *mut u64, size: *mut u64) -> u32;
+    pub fn cmv_pes_header_from_bytes(buf: *const u8, buf_len: usize) -> u32;
+    pub fn cmv_pes_header_stream_id(buf: *const u8, buf_len: usize, kind: *mut u64, low: *mut u64) -> u32;
+    pub fn cmv_pes_header_pes_packet_length(buf: *const u8, buf_len: usize, kind: *mut u64, length: *mut u64) -> u32;
+    pub fn cmv_pes_header_contents(
+        buf: *const u8,
+        buf_len: usize,
+        kind: *mut u64,
+        place: *mut u64,
+        length: *mut u64,
+    ) -> u32;
     pub fn cmv_timestamp_from_pts_bytes(buf: *const u8, buf_len: usize, value: *mut u64) -> u32;
     pub fn cmv_timestamp_from_dts_bytes(buf: *const u8, buf_len: usize, value: *mut u64) -> u32;
     pub fn cmv_timestamp_from_bytes(buf: *const u8, buf_len: usize, value: *mut u64) -> u32;
@@ -199,7 +199,7 @@ extern "C" {
 // libhost_whole.a
 #[rustfmt::skip]
 extern "C" {
-    pub fn cmv_pes_header_fields(buf: *const u8, buf_len: usize, fields: *mut [u64; 7]) -> u32;
-    pub fn cmv_packet_fields(packet: *const u8, packet_len: usize, fields: *mut [u64; 15]) -> u32;
     pub fn cmv_pes_contents_fields(buf: *const u8, buf_len: usize, fields: *mut [u64; 34]) -> u32;
+    pub fn cmv_packet_fields(packet: *const u8, packet_len: usize, fields: *mut [u64; 15]) -> u32;
+    pub fn cmv_pes_header_fields(buf: *const u8, buf_len: usize, fields: *mut [u64; 7]) -> u32;
 }

@@ -1,9 +1,0 @@
-use Rattle.host.proofs.Laws.{reports-case, host-laws}
-use Rattle.adaptation.specs.Adaptation.{givenClock}
-use Rattle.host.proofs.fields.report_clock_read.Statement.{statement}
-use Rattle.host.proofs.fields.report_clock_read.Tie as tie
-
-pub report-clock-read-spec : {M : Type 1} → statement M
-report-clock-read-spec {M} = let answers = tie.spec {M = M} (λ c. search host-laws) (λ c κs. search host-laws) (λ c. search host-laws) (λ c. search host-laws)
-    (λ c. search host-laws) (λ c. search (reports-case givenClock, host-laws)) (λ c. search (reports-case givenClock, host-laws)) (λ c. search (reports-case givenClock, host-laws))
-    (λ c. search (reports-case givenClock, host-laws)) in tie.close answers

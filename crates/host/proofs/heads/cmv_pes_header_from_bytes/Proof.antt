@@ -1,8 +1,0 @@
-use Rattle.host.proofs.Laws.{reports-of, host-laws}
-use Rattle.pes.specs.Head.{givenHead}
-use Rattle.host.proofs.heads.cmv_pes_header_from_bytes.Statement.{statement}
-use Rattle.host.proofs.heads.cmv_pes_header_from_bytes.Tie as tie
-
-pub cmv-pes-header-from-bytes-spec : {M : Type 1} → statement M
-cmv-pes-header-from-bytes-spec {M} = let answers = tie.spec {M = M} (λ c κs. search host-laws) (λ c. search host-laws) (λ c. search host-laws) (λ c. search host-laws)
-    (λ c. search (reports-of givenHead, host-laws)) (λ c. search (reports-of givenHead, host-laws)) (λ c. search (reports-of givenHead, host-laws)) in tie.close answers

@@ -1,9 +1,0 @@
-use Rattle.host.proofs.Laws.{reports-of, list-laws}
-use Rattle.pes.specs.Head.{givenStreamId}
-use Rattle.host.proofs.heads.cmv_pes_header_stream_id.Statement.{statement}
-use Rattle.host.proofs.heads.cmv_pes_header_stream_id.Tie as tie
-
-pub cmv-pes-header-stream-id-spec : {M : Type 1} → statement M
-cmv-pes-header-stream-id-spec {M} = let answers = tie.spec {M = M} (λ c κs. search list-laws) (λ c. search list-laws) (λ c κs. search list-laws) (λ c. search list-laws)
-    (λ c. search list-laws) (λ c. search (reports-of givenStreamId, list-laws)) (λ c. search (reports-of givenStreamId, list-laws))
-    (λ c. search (reports-of givenStreamId, list-laws)) in tie.close answers

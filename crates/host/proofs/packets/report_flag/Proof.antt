@@ -1,8 +1,0 @@
-use Rattle.host.proofs.Laws.{reports-case, host-laws}
-use Rattle.packet.specs.Packet.{givenFlag}
-use Rattle.host.proofs.packets.report_flag.Statement.{statement}
-use Rattle.host.proofs.packets.report_flag.Tie as tie
-
-pub report-flag-spec : {M : Type 1} → statement M
-report-flag-spec {M} = let answers = tie.spec {M = M} (λ c. search host-laws) (λ c. search host-laws) (λ c. search host-laws) (λ c. search host-laws)
-    (λ c. search (reports-case givenFlag, host-laws)) (λ c. search (reports-case givenFlag, host-laws)) (λ c. search (reports-case givenFlag, host-laws)) in tie.close answers

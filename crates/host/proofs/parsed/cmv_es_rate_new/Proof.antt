@@ -1,8 +1,0 @@
-use Rattle.host.proofs.Laws.{reports-of, host-laws}
-use Rattle.contents.specs.Given.{givenRateMade}
-use Rattle.host.proofs.parsed.cmv_es_rate_new.Statement.{statement}
-use Rattle.host.proofs.parsed.cmv_es_rate_new.Tie as tie
-
-pub cmv-es-rate-new-spec : {M : Type 1} → statement M
-cmv-es-rate-new-spec {M} = let answers = tie.spec {M = M} (λ c κs. search host-laws) (λ c. search host-laws) (λ c κs. search host-laws) (λ c. search host-laws)
-    (λ c. search host-laws) (λ c. search (reports-of givenRateMade, host-laws)) (λ c. search (reports-of givenRateMade, host-laws)) in tie.close answers

@@ -1,8 +1,0 @@
-use Rattle.host.proofs.Laws.{reports-case, host-laws}
-use Rattle.contents.specs.Given.{givenByte}
-use Rattle.host.proofs.parsed.report_byte.Statement.{statement}
-use Rattle.host.proofs.parsed.report_byte.Tie as tie
-
-pub report-byte-spec : {M : Type 1} → statement M
-report-byte-spec {M} = let answers = tie.spec {M = M} (λ c. search host-laws) (λ c. search host-laws) (λ c. search host-laws) (λ c κs. search host-laws)
-    (λ c. search (reports-case givenByte, host-laws)) (λ c. search (reports-case givenByte, host-laws)) in tie.close answers
