@@ -1,15 +1,12 @@
-use Rattle.host.proofs.Laws.{reports-done, reports-first, reports-whole}
+use Rattle.host.proofs.Laws.{reports-done, reports-whole}
+use Rattle.host_whole.proofs.Laws.{whole-laws}
 use mathlib.Core.Path.{ap₂}
 use mathlib.Core.List.{_++_}
 use Rattle.host_whole.specs.Whole.{contentsFields}
-use borrow.Author.Needs.{needs}
 use Rattle.host_whole.proofs.of_contents.cmv_pes_contents_fields.Statement.{statement}
 use Rattle.host_whole.proofs.of_contents.cmv_pes_contents_fields.Tie as tie
 
-returns : tie.Need-returns
-unfolding contentsFields
-returns c = reports-first _ (c .before .cmv-pes-contents-from-bytes .ensures) _ (c .if1 .taken)
-
+-- the numbers of each call one after another, by paths: there are more facts than `search` looks at
 returns-2 : tie.Need-returns-2
 unfolding contentsFields
 returns-2 c =
@@ -38,19 +35,7 @@ returns-2 c =
     (c .before .-lent2 .given .0)
 
 pub cmv-pes-contents-fields-spec : {M : Type 1} → statement M
-cmv-pes-contents-fields-spec =
-    tie.close
-    (tie.spec
-    (λ c κs. search needs)
-    returns
-    (λ c κs. search needs)
-    (λ c κs. search needs)
-    (λ c κs. search needs)
-    (λ c κs. search needs)
-    (λ c κs. search needs)
-    (λ c κs. search needs)
-    (λ c κs. search needs)
-    (λ c κs. search needs)
-    (λ c κs. search needs)
-    (λ c κs. search needs)
-    returns-2)
+unfolding contentsFields
+cmv-pes-contents-fields-spec {M} = let answers = tie.spec {M = M} (λ c κs. search whole-laws) (λ c. search whole-laws) (λ c κs. search whole-laws) (λ c κs. search whole-laws)
+    (λ c κs. search whole-laws) (λ c κs. search whole-laws) (λ c κs. search whole-laws) (λ c κs. search whole-laws) (λ c κs. search whole-laws) (λ c κs. search whole-laws)
+    (λ c κs. search whole-laws) (λ c κs. search whole-laws) returns-2 in tie.close answers

@@ -1,15 +1,12 @@
-use Rattle.host.proofs.Laws.{reports-first, reports-whole}
+use Rattle.host.proofs.Laws.{reports-whole}
+use Rattle.host_whole.proofs.Laws.{whole-laws}
 use mathlib.Core.Path.{ap₂}
 use mathlib.Core.List.{_∷_, _++_}
 use Rattle.host_whole.specs.Whole.{packetFields}
-use borrow.Author.Needs.{needs}
 use Rattle.host_whole.proofs.of_packet.cmv_packet_fields.Statement.{statement}
 use Rattle.host_whole.proofs.of_packet.cmv_packet_fields.Tie as tie
 
-returns : tie.Need-returns
-unfolding packetFields
-returns c = reports-first _ (c .before .cmv-packet-try-new .ensures) _ (c .if1 .taken)
-
+-- the numbers of each call one after another, by paths: there are more facts than `search` looks at
 returns-2 : tie.Need-returns-2
 unfolding packetFields
 returns-2 c =
@@ -36,20 +33,7 @@ returns-2 c =
     (c .before .-lent2 .given .0)
 
 pub cmv-packet-fields-spec : {M : Type 1} → statement M
-cmv-packet-fields-spec =
-    tie.close
-    (tie.spec
-    (λ c κs. search needs)
-    returns
-    (λ c κs. search needs)
-    (λ c κs. search needs)
-    (λ c κs. search needs)
-    (λ c κs. search needs)
-    (λ c κs. search needs)
-    (λ c κs. search needs)
-    (λ c κs. search needs)
-    (λ c κs. search needs)
-    (λ c. search needs)
-    (λ c κs. search needs)
-    (λ c. search needs)
-    returns-2)
+unfolding packetFields
+cmv-packet-fields-spec {M} = let answers = tie.spec {M = M} (λ c κs. search whole-laws) (λ c. search whole-laws) (λ c κs. search whole-laws) (λ c κs. search whole-laws)
+    (λ c κs. search whole-laws) (λ c κs. search whole-laws) (λ c κs. search whole-laws) (λ c κs. search whole-laws) (λ c κs. search whole-laws) (λ c κs. search whole-laws)
+    (λ c. search whole-laws) (λ c κs. search whole-laws) (λ c. search whole-laws) returns-2 in tie.close answers
