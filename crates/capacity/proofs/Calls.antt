@@ -12,8 +12,8 @@ use Rattle.log.specs.declared.Event.{Event}
 use Rattle.log.specs.Entry.{eventValues, readEntry}
 use Rattle.machine.specs.Run.{packetsIn, shifted}
 use Rattle.gather.specs.Belongs.{eventBytes}
-use Rattle.gather.specs.Gather.{wrongEvent, added, next, notGathered, numberOf, gatherOf, storeOf}
-use Rattle.units.specs.Units.{Standing, packetOf, answered, called, gatherAll, answers, bytesAt, lastOf, Inside}
+use Rattle.gather.specs.Gather.{wrongEvent, added, nextGathering, notGathered, gatherNumber, gatherOf, storeOf}
+use Rattle.units.specs.Units.{Standing, packetOf, answered, called, gatherAll, answers, bytesAt, lastEvent, Inside}
 use Rattle.capacity.specs.Reads.{begins, continues, upToBegin, Segment, segment, segments}
 use Rattle.capacity.specs.ReadBack.{none, eventRead, eventsRead, packetAt, call, afterCall, callNumbers, afterCalls}
 use Rattle.machine.proofs.Theorems.{chunk-at}
@@ -50,11 +50,11 @@ module _ (d : ℕ) (bytes : List ℕ) (k : ℕ) (whole : length bytes ≡ 188 * 
 
   -- the gathering store does not look at an event's index
   called-shifted : (t : Standing) (e : Event) → afterCall d bytes t (shifted d e) ≡ called (packetsIn bytes) t e
-  unfolding gatherOf storeOf numberOf notGathered wrongEvent added next eventBytes
+  unfolding gatherOf storeOf gatherNumber notGathered wrongEvent added nextGathering eventBytes
   called-shifted t e = rw (packet-at e)
 
   number-shifted : (t : Standing) (e : Event) → call d bytes t (shifted d e) .number ≡ answered (packetsIn bytes) t e .number
-  unfolding gatherOf numberOf notGathered wrongEvent added next eventBytes
+  unfolding gatherOf gatherNumber notGathered wrongEvent added nextGathering eventBytes
   number-shifted t e = rw (packet-at e)
 
   -- call by call
@@ -102,15 +102,15 @@ module _ (d : ℕ) where
       go true x y p q h k = ap₂ (λ (x : List Event) (p : List Segment). segment (shifted d e) x ∷ p) h k
       go false x y p q h k = k
 
-  pub last-shifted : (b : Event) (cs : List Event) → lastOf (shifted d b) (map (shifted d) cs) ≡ shifted d (lastOf b cs)
+  pub last-shifted : (b : Event) (cs : List Event) → lastEvent (shifted d b) (map (shifted d) cs) ≡ shifted d (lastEvent b cs)
   last-shifted b [] = refl
   last-shifted b (c ∷ cs) = last-shifted c cs
 
-  pub last-past : (x : Event) (a : List Event) (b : Event) (cs : List Event) → lastOf x (map (shifted d) (a ++ (b ∷ cs))) ≡ shifted d (lastOf b cs)
+  pub last-past : (x : Event) (a : List Event) (b : Event) (cs : List Event) → lastEvent x (map (shifted d) (a ++ (b ∷ cs))) ≡ shifted d (lastEvent b cs)
   last-past x [] b cs = last-shifted b cs
   last-past x (y ∷ a) b cs = last-past (shifted d y) a b cs
 
 -- it lies in its packet, as all do
-pub last-inside : (ps : List (List ℕ)) (b : Event) (cs : List Event) → Inside ps b → All (Inside ps) cs → Inside ps (lastOf b cs)
+pub last-inside : (ps : List (List ℕ)) (b : Event) (cs : List Event) → Inside ps b → All (Inside ps) cs → Inside ps (lastEvent b cs)
 last-inside ps b [] h k = h
 last-inside ps b (c ∷ cs) h k = last-inside ps c cs (k .0) (k .1)

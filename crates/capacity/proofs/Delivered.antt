@@ -15,7 +15,7 @@ use Rattle.machine.specs.Events.{State, atStart, run}
 use Rattle.machine.specs.Step.{stateOf}
 use Rattle.machine.specs.Run.{shifted}
 use Rattle.machine.proofs.Theorems.{run-shift}
-use Rattle.units.specs.Units.{Standing, gatherAll, answers, readAt, bytesAt, bytesAtAll, unitBytes, lastOf, GatheringStands, Taken, Open}
+use Rattle.units.specs.Units.{Standing, gatherAll, answers, readAt, bytesAt, bytesAtAll, unitBytes, lastEvent, GatheringStands, Taken, Open}
 use Rattle.gather.proofs.Theorems.{own-payload}
 use Rattle.units.proofs.Theorems.{gather-append, taken-append, gathering-open}
 use Rattle.writer.specs.declared.Route.{Route}
@@ -78,7 +78,7 @@ module _ (r : Route) (u : Unit) (payload : List ℕ) (ok : Permitted r u (length
       let b = endOf beginPacket 0 (min 184 (9 + dataOf u + length payload)) in
       All Taken (answers ps t (run 0 s ps))
       × Open payload (length (t .store)) (gatherAll ps t (run 0 s ps))
-      × (readAt ps (gatherAll ps t (run 0 s ps)) (lastOf b cs) ≡ payload)
+      × (readAt ps (gatherAll ps t (run 0 s ps)) (lastEvent b cs) ≡ payload)
   unfolding eventsWritten unitBytes
   permitted-gathered s t f good room =
       let ps = packetsOf r u payload in

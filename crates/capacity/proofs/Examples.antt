@@ -11,7 +11,7 @@ use Rattle.bits.specs.Field.{bit, field}
 use Rattle.pes.specs.Stream.{parsedId}
 use Rattle.pes.specs.Head.{notHead, idOf}
 use Rattle.packet.specs.Packet.{payloadFlag, adaptationFlag, contentAt, payloadThere}
-use Rattle.contents.specs.Contents.{notContents, flagged, readPtsDts, dataLength, timesSize, escrAt, rateAt, trickAt, copyInfoAt, crcAt}
+use Rattle.contents.specs.Contents.{notContents, flagged, readPtsDts, dataLength, timesSize, escrAt, esRateAt, trickAt, copyInfoAt, crcAt}
 use Rattle.contents.specs.Contents.{fieldsEnd, payloadAt}
 use Rattle.log.specs.declared.Event.{Event}
 use Rattle.log.specs.Entry.{event, beginPacket}
@@ -107,7 +107,7 @@ unfolding eventBytes
 bare-bytes = refl
 
 bare-fields : HasFields bare (0 ∷ 0 ∷ 1 ∷ 0xBC ∷ 0 ∷ 0 ∷ carries)
-unfolding notHead idOf notContents flagged readPtsDts dataLength timesSize escrAt rateAt trickAt copyInfoAt crcAt fieldsEnd payloadAt bit field
+unfolding notHead idOf notContents flagged readPtsDts dataLength timesSize escrAt esRateAt trickAt copyInfoAt crcAt fieldsEnd payloadAt bit field
 bare-fields =
     record {
       head = refl;

@@ -17,9 +17,9 @@ use Rattle.timestamp.specs.Stamp.{readStamp, stampValue, stampBytes}
 use Rattle.timestamp.proofs.Theorems.{read-back, stamp-length}
 use Rattle.pes.specs.Stream.{parsedId}
 use Rattle.pes.specs.Head.{notHead, idOf, packetLength}
-use Rattle.contents.specs.Contents.{dataLength, timesSize, escrAt, rateAt, trickAt, copyInfoAt, crcAt, fieldsEnd, payloadAt, readFixed}
-use Rattle.contents.specs.Contents.{scramblingBit, dataLengthBit, escrBit, rateBit, trickBit, copyInfoBit, crcBit}
-use Rattle.contents.specs.Contents.{readContents, readPtsDts, readEscr, readEsRate, readCopyInfo, readCrc, readExtension}
+use Rattle.contents.specs.Contents.{dataLength, timesSize, escrAt, esRateAt, trickAt, copyInfoAt, crcAt, fieldsEnd, payloadAt, readFixed}
+use Rattle.contents.specs.Contents.{scramblingBit, dataLengthBit, escrBit, esRateBit, trickBit, copyInfoBit, crcBit}
+use Rattle.contents.specs.Contents.{readContents, readPtsDts, readEscr, readEsRate, readCopyInfo, readCrc, readPesExtension}
 use Rattle.contents.specs.Layout.{rateTable, trickTable, copyTable, crcTable}
 use Rattle.contents.specs.Trick.{readRawTrick}
 use Rattle.contents.proofs.Laws.{Accepted, contents-is, field-off}
@@ -33,7 +33,7 @@ use Rattle.writer.specs.Unit.{Field, absent, holds, rateField, byteField, crcFi
 use Rattle.writer.specs.Unit.{statedLength}
 use Rattle.writer.specs.Packets.{headTable, timesImage, escrImage, image, fieldsImage, headerImage}
 use Rattle.writer.proofs.Laws.{times-length, escr-length, image-length, header-length}
-use Rattle.capacity.specs.Reads.{givenTimes, givenEscr, givenField, givenBit, contents, HasFields}
+use Rattle.capacity.specs.Reads.{writtenTimes, writtenEscr, writtenField, writtenBit, contents, HasFields}
 use Rattle.capacity.specs.Demand.{atMost}
 use Rattle.capacity.proofs.Permits.{TimesFit, EscrFits, UnitFits}
 
@@ -113,7 +113,7 @@ times-size c (Both p d) f =
     simp (e, g)
 
 module _ (c rest : List ℕ) (h : Accepted c) where
-  times-read : (t : Times) → TimesFit t → field c 8 2 ≡ timesFlags t → drop 3 c ≡ timesImage t ++ rest → readPtsDts c ≡ givenTimes t
+  times-read : (t : Times) → TimesFit t → field c 8 2 ≡ timesFlags t → drop 3 c ≡ timesImage t ++ rest → readPtsDts c ≡ writtenTimes t
   unfolding readPtsDts timesImage
   times-read Untimed k f e =
       let b : bit c 8 ≡ 0 = omega (arith, two-bits c Untimed f) in
@@ -137,31 +137,31 @@ module _ (c rest : List ℕ) (h : Accepted c) where
   on : (i : ℕ) → bit c i ≡ 1 → flag c i ≡ true
   on i e = eq-eqb (bit c i) 1 e
 
-  escr-read : (f : Escr) → EscrFits f → bit c escrBit ≡ escrFlag f → drop (escrAt c) c ≡ escrImage f ++ rest → readEscr c ≡ givenEscr f
+  escr-read : (f : Escr) → EscrFits f → bit c escrBit ≡ escrFlag f → drop (escrAt c) c ≡ escrImage f ++ rest → readEscr c ≡ writtenEscr f
   unfolding escrImage
   escr-read Escr.Absent k f e = sym (field-off c escrBit _ h f)
   escr-read (Escr.Present b x) k f e = escr-at-back c rest accepts b x (k .0) (omega arith) (on escrBit f) e
 
-  rate-read : (f : Field) → atMost (2 ^ 22 - 1) f → bit c rateBit ≡ fieldFlag f → drop (rateAt c) c ≡ image 3 rateTable f ++ rest
-      → readEsRate c ≡ givenField f
+  rate-read : (f : Field) → atMost (2 ^ 22 - 1) f → bit c esRateBit ≡ fieldFlag f → drop (esRateAt c) c ≡ image 3 rateTable f ++ rest
+      → readEsRate c ≡ writtenField f
   unfolding image
-  rate-read absent k f e = sym (field-off c rateBit _ h f)
-  rate-read (holds v) k f e = rate-at-back c rest accepts v (omega arith) (on rateBit f) e
+  rate-read absent k f e = sym (field-off c esRateBit _ h f)
+  rate-read (holds v) k f e = rate-at-back c rest accepts v (omega arith) (on esRateBit f) e
 
   trick-read : (f : Field) → atMost 255 f → bit c trickBit ≡ fieldFlag f → drop (trickAt c) c ≡ image 1 trickTable f ++ rest
-      → readRawTrick c ≡ givenField f
+      → readRawTrick c ≡ writtenField f
   unfolding image
   trick-read absent k f e = sym (field-off c trickBit _ h f)
   trick-read (holds v) k f e = trick-at-back c rest accepts v (omega arith) (on trickBit f) e
 
   copy-read : (f : Field) → atMost 127 f → bit c copyInfoBit ≡ fieldFlag f → drop (copyInfoAt c) c ≡ image 1 copyTable f ++ rest
-      → readCopyInfo c ≡ givenField f
+      → readCopyInfo c ≡ writtenField f
   unfolding image
   copy-read absent k f e = sym (field-off c copyInfoBit _ h f)
   copy-read (holds v) k f e = copy-info-at-back c rest accepts v (omega arith) (on copyInfoBit f) e
 
   crc-read : (f : Field) → atMost 65535 f → bit c crcBit ≡ fieldFlag f → drop (crcAt c) c ≡ image 2 crcTable f ++ rest
-      → readCrc c ≡ givenField f
+      → readCrc c ≡ writtenField f
   unfolding image
   crc-read absent k f e = sym (field-off c crcBit _ h f)
   crc-read (holds v) k f e = crc-at-back c rest accepts v (omega arith) (on crcBit f) e
@@ -276,15 +276,15 @@ module _ (u : Unit) (n : ℕ) (ok : UnitFits u n) (pay : List ℕ) where
       let l : length (timesImage (u .times)) ≡ timesSize c = times-length (u .times) ∙ sym (times-size c (u .times) times-flags) in
       skip (timesImage (u .times)) after-times c 3 (timesSize c) times-at l
 
-  rate-at : drop (rateAt c) c ≡ after-escr
-  unfolding rateAt
+  rate-at : drop (esRateAt c) c ≡ after-escr
+  unfolding esRateAt
   rate-at = skip (escrImage (u .escr)) after-escr c (escrAt c) (6 * bit c 10) escr-at (omega (arith, escr-length (u .escr), escr-flag))
 
   trick-at : drop (trickAt c) c ≡ after-rate
   unfolding trickAt
   trick-at =
       let f = rateField (u .rate) in
-      skip (image 3 rateTable f) after-rate c (rateAt c) (3 * bit c 11) rate-at (omega (arith, image-length 3 rateTable f, rate-flag))
+      skip (image 3 rateTable f) after-rate c (esRateAt c) (3 * bit c 11) rate-at (omega (arith, image-length 3 rateTable f, rate-flag))
 
   copy-at : drop (copyInfoAt c) c ≡ after-trick
   unfolding copyInfoAt
@@ -305,7 +305,7 @@ module _ (u : Unit) (n : ℕ) (ok : UnitFits u n) (pay : List ℕ) where
       skip (image 2 crcTable f) pay c (crcAt c) (2 * bit c 14) crc-at (omega (arith, image-length 2 crcTable f, crc-flag))
 
   end-is : fieldsEnd c ≡ 3 + dataOf u
-  unfolding fieldsEnd crcAt copyInfoAt trickAt rateAt escrAt dataOf
+  unfolding fieldsEnd crcAt copyInfoAt trickAt esRateAt escrAt dataOf
   end-is = omega (arith, times-size c (u .times) times-flags, escr-flag, rate-flag, trick-flag, copy-flag, crc-flag)
 
   pub payload-is : payloadAt c ≡ 3 + dataOf u
@@ -323,7 +323,7 @@ module _ (u : Unit) (n : ℕ) (ok : UnitFits u n) (pay : List ℕ) where
       let e : fieldsEnd c ≤ payloadAt c = omega (arith, payload-is, end-is) in
       record { fixed = a; header = d; fields = e; is = λ x. contents-is c x (a, b, d, e) }
 
-  bit-given : (o : ℕ) (b : Bool) → field c o 1 ≡ truth b → readFixed o 1 c ≡ givenBit b
+  bit-given : (o : ℕ) (b : Bool) → field c o 1 ≡ truth b → readFixed o 1 c ≡ writtenBit b
   bit-given o b e = accepted-back .is _ ∙ given e
 
   -- every field as given
@@ -357,7 +357,7 @@ module _ (u : Unit) (n : ℕ) (ok : UnitFits u n) (pay : List ℕ) where
       simp (headed-back, p, accepted-back .is) (ap (take (length c - payloadAt c)) e ∙ take-all (length c - payloadAt c) pay l)
 
   -- nothing that the unit does not name is set: no scrambling, no extension, no stuffing
-  pub rest-given : (readFixed scramblingBit 2 c ≡ answer 0 (0 ∷ [])) × (readFixed dataLengthBit 8 c ≡ answer 0 (dataOf u ∷ [])) × (readExtension c ≡ answer 9 [])
+  pub rest-given : (readFixed scramblingBit 2 c ≡ answer 0 (0 ∷ [])) × (readFixed dataLengthBit 8 c ≡ answer 0 (dataOf u ∷ [])) × (readPesExtension c ≡ answer 9 [])
   unfolding dataLength
   rest-given =
       let a = accepted-back in

@@ -15,7 +15,7 @@ use Rattle.pes.specs.Stream.{parsedId}
 use Rattle.pes.specs.Head.{idOf}
 use Rattle.pes.proofs.Laws.{headed-done}
 use Rattle.contents.specs.declared.ContentsRead.{ContentsRead}
-use Rattle.contents.specs.Contents.{timesSize, escrAt, rateAt, trickAt, copyInfoAt, crcAt, fieldsEnd, payloadAt, flagged, readPtsDts}
+use Rattle.contents.specs.Contents.{timesSize, escrAt, esRateAt, trickAt, copyInfoAt, crcAt, fieldsEnd, payloadAt, flagged, readPtsDts}
 use Rattle.contents.proofs.Laws.{Accepted, accepted}
 use Rattle.log.specs.declared.Event.{Event}
 use Rattle.log.specs.Entry.{beginPacket, continuePacket}
@@ -31,7 +31,7 @@ use Rattle.writer.specs.declared.Escr.{Escr}
 use Rattle.writer.specs.declared.Unit.{Unit}
 use Rattle.writer.specs.Unit.{Field, absent, holds, rateField, byteField, crcField, escrFlag, fieldFlag, timesBytes, dataOf, countOf}
 use Rattle.units.specs.Units.{bytesAt, bytesAtAll}
-use Rattle.capacity.specs.Reads.{begins, continues, upToBegin, Segment, segment, segments, givenTimes, givenEscr, givenField}
+use Rattle.capacity.specs.Reads.{begins, continues, upToBegin, Segment, segment, segments, writtenTimes, writtenEscr, writtenField}
 use Rattle.capacity.specs.Reads.{contents, HasFields, Gives}
 
 -- ---- a packet gives at most one part, of at most 184 bytes
@@ -180,11 +180,11 @@ module _ (c : List ℕ) (h : Accepted c) where
       go true z = refl
       go false z = absurd (omega arith)
 
-  field-takes : (i : ℕ) (a : Answer) (f : Field) → flagged i c a ≡ givenField f → fieldFlag f ≤ bit c i
+  field-takes : (i : ℕ) (a : Answer) (f : Field) → flagged i c a ≡ writtenField f → fieldFlag f ≤ bit c i
   field-takes i a absent e = omega arith
   field-takes i a (holds v) e = omega (arith, flag-on i a (ap number-of e))
 
-  escr-takes : (a : Answer) (f : Escr) → flagged 10 c a ≡ givenEscr f → escrFlag f ≤ bit c 10
+  escr-takes : (a : Answer) (f : Escr) → flagged 10 c a ≡ writtenEscr f → escrFlag f ≤ bit c 10
   escr-takes a Escr.Absent e = omega arith
   escr-takes a (Escr.Present b x) e = omega (arith, flag-on 10 a (ap number-of e))
 
@@ -204,7 +204,7 @@ module _ (c : List ℕ) (h : Accepted c) where
       go true e = omega (arith, eqb-true n 1 e)
       go false e = omega arith
 
-  times-takes : (t : Times) → readPtsDts c ≡ givenTimes t → timesBytes t ≤ timesSize c
+  times-takes : (t : Times) → readPtsDts c ≡ writtenTimes t → timesBytes t ≤ timesSize c
   unfolding readPtsDts timesSize
   times-takes Untimed e = omega arith
   times-takes (Pts p) e =
@@ -224,7 +224,7 @@ module _ (u : Unit) (xs : List ℕ) (h : HasFields u xs) where
   taken = accepted c ContentsRead.Done refl (sym (h .accepted))
 
   fields-room : 3 + dataOf u ≤ fieldsEnd c
-  unfolding dataOf fieldsEnd crcAt copyInfoAt trickAt rateAt escrAt
+  unfolding dataOf fieldsEnd crcAt copyInfoAt trickAt esRateAt escrAt
   fields-room =
       omega (
         arith,

@@ -24,7 +24,7 @@ use Rattle.machine.specs.Step.{stateOf, Stands}
 use Rattle.machine.specs.Run.{reportOf, ranLog, IsPacket, Logged}
 use Rattle.machine.proofs.Theorems.{run-logged}
 use Rattle.gather.specs.Gather.{readOf, heldBytes}
-use Rattle.units.specs.Units.{Standing, packetOf, gatherAll, answers, readAt, bytesAt, lastOf, Inside, GatheringStands, Taken, Open}
+use Rattle.units.specs.Units.{Standing, packetOf, gatherAll, answers, readAt, bytesAt, lastEvent, Inside, GatheringStands, Taken, Open}
 use Rattle.gather.proofs.Laws.{read-done}
 use Rattle.units.proofs.Theorems.{packet-there}
 use Rattle.writer.specs.declared.Route.{Route}
@@ -246,7 +246,7 @@ pub unit-gathered : (r : Route) (u : Unit) (payload out : List ℕ) (s : State) 
     let b = endOf beginPacket 0 (min 184 (9 + dataOf u + length payload)) in
     All Taken (answers ps t (run 0 s ps))
     × Open payload (length (t .store)) (gatherAll ps t (run 0 s ps))
-    × (readAt ps (gatherAll ps t (run 0 s ps)) (lastOf b cs) ≡ payload)
+    × (readAt ps (gatherAll ps t (run 0 s ps)) (lastEvent b cs) ≡ payload)
 unit-gathered r u payload out s t h typed f good room =
     rw (output-packets r u payload out h, accepted-count r u payload out h)
     (permitted-gathered r u payload (accepted-permitted r u payload out h typed) s t f good room)
@@ -290,7 +290,7 @@ module _ (r : Route) (u : Unit) (payload out : List ℕ) (m : Machine) (log : Li
 
   gathers : All Taken (answers packets t es)
       × Open payload (length (t .store)) (gatherAll packets t es)
-      × (readAt packets (gatherAll packets t es) (lastOf b cs) ≡ payload)
+      × (readAt packets (gatherAll packets t es) (lastEvent b cs) ≡ payload)
   gathers =
       rw (output-packets r u payload out h, ← unit-run r u payload sound (stateOf m) ready)
       (permitted-gathered r u payload sound (stateOf m) t ready good fits)
@@ -302,21 +302,21 @@ module _ (r : Route) (u : Unit) (payload out : List ℕ) (m : Machine) (log : Li
   stands-after =
       ap (afterCalls (m .taken) bytes t) added-are ∙ calls-shifted (m .taken) bytes (countOf u n) size-is t es
 
-  last-packet : packetAt (m .taken) bytes (lastOf none (eventsAdded m bytes log)) ≡ packetOf packets (lastOf b cs)
+  last-packet : packetAt (m .taken) bytes (lastEvent none (eventsAdded m bytes log)) ≡ packetOf packets (lastEvent b cs)
   unfolding eventsWritten
   last-packet =
-      ap (λ (x : List Event). packetAt (m .taken) bytes (lastOf none x)) added-are
+      ap (λ (x : List Event). packetAt (m .taken) bytes (lastEvent none x)) added-are
       ∙ (ap (packetAt (m .taken) bytes) (last-past (m .taken) none (atStart (m .phase) 0) b cs)
-      ∙ packet-at (m .taken) bytes (countOf u n) size-is (lastOf b cs))
+      ∙ packet-at (m .taken) bytes (countOf u n) size-is (lastEvent b cs))
 
-  is-packet : IsPacket (packetOf packets (lastOf b cs))
+  is-packet : IsPacket (packetOf packets (lastEvent b cs))
   is-packet =
       let q = output-packets r u payload out h in
       let ps = packetsOf r u payload in
       let l = long-enough r u payload in
-      let i : Inside ps (lastOf b cs)
+      let i : Inside ps (lastEvent b cs)
       = last-inside ps b cs (omega arith, part-inside (9 + dataOf u + n)) (continues-inside ps 1 (countOf u n - 1) (9 + dataOf u + n - 184) l) in
-      rw q (packet-there ps (lastOf b cs .index) (all-packets r u payload) (i .0))
+      rw q (packet-there ps (lastEvent b cs .index) (all-packets r u payload) (i .0))
 
   calls : ReadBack r u payload (countGiven r u payload out) bytes m log t
   calls =

@@ -11,8 +11,8 @@ use Rattle.control.specs.Control.{scrambling}
 use Rattle.packet.specs.Packet.{tried, readFlag, errorBit, startBit, priorityBit, readPid, readCounter, readAdaptation, readPayload}
 use Rattle.pes.specs.Stream.{readId}
 use Rattle.pes.specs.Head.{readStreamId, readLength, readContentsPart}
-use Rattle.contents.specs.Contents.{scramblingBit, dataLengthBit, readFixed, readExtension}
-use Rattle.contents.specs.Contents.{readPayload as readParsed}
+use Rattle.contents.specs.Contents.{scramblingBit, dataLengthBit, readFixed, readPesExtension}
+use Rattle.contents.specs.Contents.{readParsedPayload}
 use Rattle.writer.specs.declared.Unit.{Unit}
 use Rattle.writer.specs.Unit.{dataOf}
 use Rattle.capacity.specs.Reads.{contents, HasFields}
@@ -42,5 +42,5 @@ pub record HeaderRead (u : Unit) (n : ℕ) (xs : List ℕ) : Type 0 where
   pub parsed : readContentsPart xs ≡ answer done (1 ∷ 6 ∷ (length xs - 6) ∷ [])
   pub not-scrambled : readFixed scramblingBit 2 (contents xs) ≡ answer done (0 ∷ [])
   pub no-stuffing : readFixed dataLengthBit 8 (contents xs) ≡ answer done (dataOf u ∷ [])
-  pub no-extension : readExtension (contents xs) ≡ answer fieldNotPresent []
-  pub has-payload : readParsed (contents xs) ≡ answer done ((3 + dataOf u) ∷ (length (contents xs) - (3 + dataOf u)) ∷ [])
+  pub no-extension : readPesExtension (contents xs) ≡ answer fieldNotPresent []
+  pub has-payload : readParsedPayload (contents xs) ≡ answer done ((3 + dataOf u) ∷ (length (contents xs) - (3 + dataOf u)) ∷ [])

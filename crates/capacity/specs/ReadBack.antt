@@ -12,8 +12,8 @@ use Rattle.log.specs.Entry.{event, eventValues, readEntry}
 use Rattle.machine.specs.declared.Machine.{Machine}
 use Rattle.machine.specs.Run.{packetsIn, reportOf, ranLog}
 use Rattle.gather.specs.Belongs.{eventBytes}
-use Rattle.gather.specs.Gather.{Outcome, gatherOf, storeOf, readOf, heldBytes}
-use Rattle.units.specs.Units.{Standing, standing, lastOf, Taken}
+use Rattle.gather.specs.Gather.{GatherOutcome, gatherOf, storeOf, readOf, heldBytes}
+use Rattle.units.specs.Units.{Standing, standing, lastEvent, Taken}
 use Rattle.writer.specs.declared.Route.{Route}
 use Rattle.writer.specs.declared.Unit.{Unit}
 use Rattle.writer.specs.Unit.{dataOf}
@@ -47,7 +47,7 @@ packetAt i bytes e = take 188 (drop (188 * (e .index - i)) bytes)
 
 module _ (i : ℕ) (bytes : List ℕ) where
   -- a call with an event and its packet
-  abbrev pub call : Standing → Event → Outcome
+  abbrev pub call : Standing → Event → GatherOutcome
   call t e = gatherOf (t .gathering) (packetAt i bytes e) e (t .store)
 
   abbrev pub afterCall : Standing → Event → Standing
@@ -83,6 +83,6 @@ pub record ReadBack (r : Route) (u : Unit) (payload : List ℕ) (count : ℕ) (b
   -- `gather` takes every event, and the bytes read out after the last are the payload
   pub gathered : All Taken (callNumbers (m .taken) bytes t (eventsAdded m bytes log))
   pub held : let s = afterCalls (m .taken) bytes t (eventsAdded m bytes log) in
-      readOf (s .gathering) (packetAt (m .taken) bytes (lastOf none (eventsAdded m bytes log))) (s .store) ≡ done
+      readOf (s .gathering) (packetAt (m .taken) bytes (lastEvent none (eventsAdded m bytes log))) (s .store) ≡ done
   pub read-out : let s = afterCalls (m .taken) bytes t (eventsAdded m bytes log) in
-      heldBytes (s .gathering) (packetAt (m .taken) bytes (lastOf none (eventsAdded m bytes log))) (s .store) ≡ payload
+      heldBytes (s .gathering) (packetAt (m .taken) bytes (lastEvent none (eventsAdded m bytes log))) (s .store) ≡ payload

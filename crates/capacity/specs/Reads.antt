@@ -8,7 +8,7 @@ use lib.Dec.{eqb}
 use Rattle.bits.specs.Answer.{Answer, answer, pick, truth, All}
 use Rattle.bits.specs.Numbers.{done, fieldNotPresent}
 use Rattle.pes.specs.Head.{readHead, idOf}
-use Rattle.contents.specs.Contents.{priorityBit, alignmentBit, copyrightBit, originalBit}
+use Rattle.contents.specs.Contents.{pesPriorityBit, alignmentBit, copyrightBit, originalBit}
 use Rattle.contents.specs.Contents.{readContents, readFixed, readPtsDts, readEscr, readEsRate, readCopyInfo, readCrc}
 use Rattle.contents.specs.Trick.{readRawTrick}
 use Rattle.pes_header.specs.Payload.{payloadBytes}
@@ -50,21 +50,21 @@ segments (e ∷ es) = pick (begins e) (segment e (upToBegin es) ∷ segments es)
 
 -- ---- the fields of a unit, as the readers give them
 
-abbrev pub givenTimes : Times → Answer
-givenTimes Untimed = answer fieldNotPresent []
-givenTimes (Pts p) = answer done (1 ∷ done ∷ p ∷ [])
-givenTimes (Both p d) = answer done (2 ∷ done ∷ p ∷ done ∷ d ∷ [])
+abbrev pub writtenTimes : Times → Answer
+writtenTimes Untimed = answer fieldNotPresent []
+writtenTimes (Pts p) = answer done (1 ∷ done ∷ p ∷ [])
+writtenTimes (Both p d) = answer done (2 ∷ done ∷ p ∷ done ∷ d ∷ [])
 
-abbrev pub givenEscr : Escr → Answer
-givenEscr Escr.Absent = answer fieldNotPresent []
-givenEscr (Escr.Present b e) = answer done (b ∷ e ∷ [])
+abbrev pub writtenEscr : Escr → Answer
+writtenEscr Escr.Absent = answer fieldNotPresent []
+writtenEscr (Escr.Present b e) = answer done (b ∷ e ∷ [])
 
-abbrev pub givenField : Field → Answer
-givenField absent = answer fieldNotPresent []
-givenField (holds v) = answer done (v ∷ [])
+abbrev pub writtenField : Field → Answer
+writtenField absent = answer fieldNotPresent []
+writtenField (holds v) = answer done (v ∷ [])
 
-abbrev pub givenBit : Bool → Answer
-givenBit b = answer done (truth b ∷ [])
+abbrev pub writtenBit : Bool → Answer
+writtenBit b = answer done (truth b ∷ [])
 
 -- what follows the six bytes of a head
 abbrev pub contents : List ℕ → List ℕ
@@ -75,16 +75,16 @@ pub record HasFields (u : Unit) (xs : List ℕ) : Type 0 where
   pub head : readHead xs ≡ answer done []
   pub id : idOf xs ≡ u .id
   pub accepted : readContents (contents xs) ≡ answer done []
-  pub priority : readFixed priorityBit 1 (contents xs) ≡ givenBit (u .priority)
-  pub alignment : readFixed alignmentBit 1 (contents xs) ≡ givenBit (u .alignment)
-  pub copyright : readFixed copyrightBit 1 (contents xs) ≡ givenBit (u .copyright)
-  pub original : readFixed originalBit 1 (contents xs) ≡ givenBit (u .original)
-  pub times : readPtsDts (contents xs) ≡ givenTimes (u .times)
-  pub escr : readEscr (contents xs) ≡ givenEscr (u .escr)
-  pub rate : readEsRate (contents xs) ≡ givenField (rateField (u .rate))
-  pub trick : readRawTrick (contents xs) ≡ givenField (byteField (u .trick))
-  pub copy : readCopyInfo (contents xs) ≡ givenField (byteField (u .copy))
-  pub crc : readCrc (contents xs) ≡ givenField (crcField (u .crc))
+  pub priority : readFixed pesPriorityBit 1 (contents xs) ≡ writtenBit (u .priority)
+  pub alignment : readFixed alignmentBit 1 (contents xs) ≡ writtenBit (u .alignment)
+  pub copyright : readFixed copyrightBit 1 (contents xs) ≡ writtenBit (u .copyright)
+  pub original : readFixed originalBit 1 (contents xs) ≡ writtenBit (u .original)
+  pub times : readPtsDts (contents xs) ≡ writtenTimes (u .times)
+  pub escr : readEscr (contents xs) ≡ writtenEscr (u .escr)
+  pub rate : readEsRate (contents xs) ≡ writtenField (rateField (u .rate))
+  pub trick : readRawTrick (contents xs) ≡ writtenField (byteField (u .trick))
+  pub copy : readCopyInfo (contents xs) ≡ writtenField (byteField (u .copy))
+  pub crc : readCrc (contents xs) ≡ writtenField (crcField (u .crc))
 
 -- ---- what is given
 

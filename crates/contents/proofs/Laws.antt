@@ -37,10 +37,10 @@ use Rattle.contents.specs.declared.EscrRead.{EscrRead}
 use Rattle.contents.specs.declared.PartRead.{PartRead}
 use Rattle.contents.proofs.PartRead.{the-type}
 use Rattle.contents.specs.Given.{refusal, givenContents, givenStamp, givenPtsDts, givenEscr, givenPart}
-use Rattle.contents.specs.Contents.{dataLength, timesSize, escrAt, rateAt, trickAt, copyInfoAt, crcAt, fieldsEnd, payloadAt, notContents}
-use Rattle.contents.specs.Contents.{ptsBit, dtsBit, escrBit, rateBit, trickBit, copyInfoBit, crcBit, extensionBit}
+use Rattle.contents.specs.Contents.{dataLength, timesSize, escrAt, esRateAt, trickAt, copyInfoAt, crcAt, fieldsEnd, payloadAt, notContents}
+use Rattle.contents.specs.Contents.{ptsBit, dtsBit, escrBit, esRateBit, trickBit, copyInfoBit, crcBit, pesExtensionBit}
 use Rattle.contents.specs.Contents.{flagged, readContents, readPtsDts, escrBase, escrExtension, escrAnswer, rateOf, readEscr}
-use Rattle.contents.specs.Contents.{readEsRate, readCopyInfo, readCrc, readExtension, readPayload, makeRate, rateBytes}
+use Rattle.contents.specs.Contents.{readEsRate, readCopyInfo, readCrc, readPesExtension, readParsedPayload, makeRate, rateBytes}
 use Rattle.contents.specs.Trick.{control, trickOf, trickByte, truncationBits, readTrick, readRawTrick}
 
 -- ---- where things stand
@@ -81,21 +81,21 @@ module _ (c : List ℕ) where
 
   -- where the field after one that its flag says is there, or is not, stands
   module _ (at : ℕ) (f : Bool) where
-    pub escr-skipped : at ≡ escrAt c → f ≡ flag c escrBit → f ≡ false → at ≡ rateAt c
-    unfolding rateAt
+    pub escr-skipped : at ≡ escrAt c → f ≡ flag c escrBit → f ≡ false → at ≡ esRateAt c
+    unfolding esRateAt
     escr-skipped p e n = omega (arith, clear escrBit f e n)
 
-    pub escr-passed : at ≡ escrAt c → f ≡ flag c escrBit → f ≡ true → at + 6 ≡ rateAt c
-    unfolding rateAt
+    pub escr-passed : at ≡ escrAt c → f ≡ flag c escrBit → f ≡ true → at + 6 ≡ esRateAt c
+    unfolding esRateAt
     escr-passed p e n = omega (arith, set escrBit f e n)
 
-    pub rate-skipped : at ≡ rateAt c → f ≡ flag c rateBit → f ≡ false → at ≡ trickAt c
+    pub rate-skipped : at ≡ esRateAt c → f ≡ flag c esRateBit → f ≡ false → at ≡ trickAt c
     unfolding trickAt
-    rate-skipped p e n = omega (arith, clear rateBit f e n)
+    rate-skipped p e n = omega (arith, clear esRateBit f e n)
 
-    pub rate-passed : at ≡ rateAt c → f ≡ flag c rateBit → f ≡ true → at + 3 ≡ trickAt c
+    pub rate-passed : at ≡ esRateAt c → f ≡ flag c esRateBit → f ≡ true → at + 3 ≡ trickAt c
     unfolding trickAt
-    rate-passed p e n = omega (arith, set rateBit f e n)
+    rate-passed p e n = omega (arith, set esRateBit f e n)
 
     pub trick-skipped : at ≡ trickAt c → f ≡ flag c trickBit → f ≡ false → at ≡ copyInfoAt c
     unfolding copyInfoAt
@@ -129,7 +129,7 @@ module _ (c : List ℕ) where
   unfolding bit
   flag-at i t e = e
 
-  pub last-flag : eqb (getD c 1 0 % 2) 1 ≡ flag c extensionBit
+  pub last-flag : eqb (getD c 1 0 % 2) 1 ≡ flag c pesExtensionBit
   unfolding bit
   last-flag = rw div-one
 
@@ -289,7 +289,7 @@ contents-within : (c : List ℕ) (a : Answer) → (Accepted c → Within a c) �
 unfolding notContents
 contents-within c a w = unless-within (notContents c) a c (omega arith) (λ o. w (passes c o))
 
-pub extension-within : (c : List ℕ) → Within (readExtension c) c
+pub extension-within : (c : List ℕ) → Within (readPesExtension c) c
 unfolding flagged
 extension-within c = contents-within c _ (λ h. go h (flag c 15))
   where
@@ -297,7 +297,7 @@ extension-within c = contents-within c _ (λ h. go h (flag c 15))
     go h true z = omega arith
     go h false z = absurd (omega arith)
 
-pub payload-within : (c : List ℕ) → Within (readPayload c) c
+pub payload-within : (c : List ℕ) → Within (readParsedPayload c) c
 payload-within c = contents-within c _ (λ h z. omega arith)
 
 -- an answer that is not `Done` is a refusal
@@ -411,30 +411,30 @@ module _ (c : List ℕ) (ok : Accepted c) where
 
   module _ (at : ℕ) (p : at ≡ escrAt c) (f : Bool) (e : f ≡ flag c escrBit) (n : f ≡ true) where
     pub escr-start : at ≤ length c
-    unfolding fieldsEnd crcAt copyInfoAt trickAt rateAt
+    unfolding fieldsEnd crcAt copyInfoAt trickAt esRateAt
     escr-start = omega (arith, set c escrBit f e n)
 
     pub escr-room : 6 ≤ length (take (length c - at) (drop at c))
-    unfolding fieldsEnd crcAt copyInfoAt trickAt rateAt
+    unfolding fieldsEnd crcAt copyInfoAt trickAt esRateAt
     escr-room = rw (part-rest at c, length-drop) (omega (arith, set c escrBit f e n))
 
     pub escr-done : (x : EscrRead) → givenEscr x ≡ escrAnswer (take (length c - at) (drop at c)) → givenEscr x ≡ readEscr c
     escr-done x g = rw (g, part-rest at c, p) (sym (field-on c escrBit _ ok (set c escrBit f e n)))
 
-  module _ (at : ℕ) (p : at ≡ rateAt c) (f : Bool) (e : f ≡ flag c rateBit) (n : f ≡ true) where
+  module _ (at : ℕ) (p : at ≡ esRateAt c) (f : Bool) (e : f ≡ flag c esRateBit) (n : f ≡ true) where
     pub rate-first : at < length c
     unfolding fieldsEnd crcAt copyInfoAt trickAt
-    rate-first = omega (arith, set c rateBit f e n)
+    rate-first = omega (arith, set c esRateBit f e n)
 
     pub rate-later : (k : ℕ) → k < 3 → at + k < length c
     unfolding fieldsEnd crcAt copyInfoAt trickAt
-    rate-later k l = omega (arith, set c rateBit f e n)
+    rate-later k l = omega (arith, set c esRateBit f e n)
 
     pub rate-done : (u v w : ℕ) → (u ≡ getD c at 0) × (u < 256) → (v ≡ getD c (at + 1) 0) × (v < 256) → (w ≡ getD c (at + 2) 0) × (w < 256)
         → answer 0 ((u % 128 * 32768 + v * 128 + w / 2) ∷ []) ≡ readEsRate c
     rate-done u v w i j k =
         let q : u % 128 * 32768 + v * 128 + w / 2 ≡ rateOf (drop at c) = omega (arith, rate-of c at) in
-        rw (q, p) (sym (field-on c rateBit _ ok (set c rateBit f e n)))
+        rw (q, p) (sym (field-on c esRateBit _ ok (set c esRateBit f e n)))
 
   module _ (at : ℕ) (p : at ≡ trickAt c) (f : Bool) (e : f ≡ flag c trickBit) (n : f ≡ true) where
     pub trick-first : at < length c
@@ -478,18 +478,18 @@ module _ (c : List ℕ) (ok : Accepted c) where
     pub end-in : end ≤ length c
     end-in = omega (arith, ok .header)
 
-    pub payload-done : answer 0 (end ∷ (length c - end) ∷ []) ≡ readPayload c
+    pub payload-done : answer 0 (end ∷ (length c - end) ∷ []) ≡ readParsedPayload c
     payload-done = rw p (sym (ok .is _))
 
     module _ (at : ℕ) (q : at ≡ fieldsEnd c) where
       pub fields-in : at ≤ end
       fields-in = omega (arith, ok .fields)
 
-      pub extension-done : (f : Bool) → f ≡ flag c extensionBit → f ≡ true → answer 0 (at ∷ (end - at) ∷ []) ≡ readExtension c
-      extension-done f e n = rw (p, q) (sym (field-on c extensionBit _ ok (set c extensionBit f e n)))
+      pub extension-done : (f : Bool) → f ≡ flag c pesExtensionBit → f ≡ true → answer 0 (at ∷ (end - at) ∷ []) ≡ readPesExtension c
+      extension-done f e n = rw (p, q) (sym (field-on c pesExtensionBit _ ok (set c pesExtensionBit f e n)))
 
 times-fit : (c : List ℕ) → Accepted c → escrAt c ≤ length c
-unfolding fieldsEnd crcAt copyInfoAt trickAt rateAt
+unfolding fieldsEnd crcAt copyInfoAt trickAt esRateAt
 times-fit c ok = omega arith
 
 -- by the answer itself: `accepted` below a law that has four more premises is too far for one `search`
@@ -540,10 +540,10 @@ module _ (at : ℕ) (xs : List ℕ) (r : TimestampRead) (g : given r ≡ readSta
 pub no-part : (xs : List ℕ) (a : Answer) (r : PartRead) → OneOf (1 ∷ 2 ∷ []) (tagOf the-type r) → givenPart r ≡ a → [] ≡ partOf a xs
 no-part xs a r k e = part-refused a xs (λ z. part-refusal r k (ap (λ (x : Answer). x .number) e ∙ z))
 
-pub extension-part : (c x : List ℕ) (r : PartRead) (p n : ℕ) → r ≡ PartRead.Done p n → givenPart r ≡ readExtension c → x ≡ partAt p n c → x ≡ partOf (readExtension c) c
+pub extension-part : (c x : List ℕ) (r : PartRead) (p n : ℕ) → r ≡ PartRead.Done p n → givenPart r ≡ readPesExtension c → x ≡ partAt p n c → x ≡ partOf (readPesExtension c) c
 extension-part c x r p n e g f = f ∙ part-done _ _ p n (ap givenPart (sym e) ∙ g) (extension-within c)
 
-pub payload-part : (c x : List ℕ) (r : PartRead) (p n : ℕ) → r ≡ PartRead.Done p n → givenPart r ≡ readPayload c → x ≡ partAt p n c → x ≡ partOf (readPayload c) c
+pub payload-part : (c x : List ℕ) (r : PartRead) (p n : ℕ) → r ≡ PartRead.Done p n → givenPart r ≡ readParsedPayload c → x ≡ partAt p n c → x ≡ partOf (readParsedPayload c) c
 payload-part c x r p n e g f = f ∙ part-done _ _ p n (ap givenPart (sym e) ∙ g) (payload-within c)
 
 -- the trick mode byte

@@ -43,7 +43,7 @@ use Rattle.contents.specs.Given.{refusal, givenContents, givenByte, give
 use Rattle.contents.specs.Given.{givenOriginal, givenStamp, givenPtsDts, givenEscr}
 use Rattle.contents.specs.Given.{givenRateMade, givenRateNumber, givenEsRate, truncation, trickValues, givenTrick, givenField}
 use Rattle.contents.specs.Given.{givenCopyInfo, givenCrc, givenPart}
-use Rattle.contents.specs.Contents.{escrBit, rateBit, trickBit, copyInfoBit, crcBit, escrAt, rateAt, trickAt, copyInfoAt, crcAt}
+use Rattle.contents.specs.Contents.{escrBit, esRateBit, trickBit, copyInfoBit, crcBit, escrAt, esRateAt, trickAt, copyInfoAt, crcAt}
 use Rattle.contents.specs.Contents.{flagged, readContents, escrBase, escrExtension, escrAnswer, readEscr, rateOf, readEsRate}
 use Rattle.contents.specs.Contents.{copyInfoOf, readCopyInfo, readCrc}
 use Rattle.contents.specs.Layout.{escrTable, escrBytes, rateTable, esRateBytes, trickTable, trickBytes, copyTable, copyInfoBytes}
@@ -371,8 +371,8 @@ module _ (c rest : List ℕ) (h : readContents c ≡ answer done []) where
       → readEscr c ≡ answer done (b ∷ e ∷ [])
   escr-at-back b e k l f d = read-there escrBit (escrAt c) escrAnswer _ f d ∙ escr-back rest b e k l
 
-  pub rate-at-back : (v : ℕ) → v < 2 ^ 22 → flag c rateBit ≡ true → drop (rateAt c) c ≡ esRateBytes v ++ rest → readEsRate c ≡ answer done (v ∷ [])
-  rate-at-back v k f d = read-there rateBit (rateAt c) (λ xs. answer 0 (rateOf xs ∷ [])) _ f d ∙ rw (rate-back rest v k)
+  pub rate-at-back : (v : ℕ) → v < 2 ^ 22 → flag c esRateBit ≡ true → drop (esRateAt c) c ≡ esRateBytes v ++ rest → readEsRate c ≡ answer done (v ∷ [])
+  rate-at-back v k f d = read-there esRateBit (esRateAt c) (λ xs. answer 0 (rateOf xs ∷ [])) _ f d ∙ rw (rate-back rest v k)
 
   pub trick-at-back : (v : ℕ) → v < 2 ^ 8 → flag c trickBit ≡ true → drop (trickAt c) c ≡ trickBytes v ++ rest → readRawTrick c ≡ answer done (v ∷ [])
   trick-at-back v k f d = read-there trickBit (trickAt c) (λ xs. answer 0 (field xs 0 8 ∷ [])) _ f d ∙ rw (trick-back rest v k)

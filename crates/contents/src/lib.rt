@@ -6,11 +6,11 @@ ghost use lib.ListN.{length, drop};
 ghost use Rattle.bits.specs.Answer.{partOf};
 ghost use Rattle.bits.specs.Field.{field, flag};
 ghost use Rattle.timestamp.specs.Stamp.{readStamp};
-ghost use Rattle.contents.specs.Contents.{scramblingBit, priorityBit, alignmentBit, copyrightBit, originalBit, flagsBit, dataLengthBit};
-ghost use Rattle.contents.specs.Contents.{ptsBit, escrBit, rateBit, trickBit, copyInfoBit, crcBit, extensionBit};
+ghost use Rattle.contents.specs.Contents.{scramblingBit, pesPriorityBit, alignmentBit, copyrightBit, originalBit, flagsBit, dataLengthBit};
+ghost use Rattle.contents.specs.Contents.{ptsBit, escrBit, esRateBit, trickBit, copyInfoBit, crcBit, pesExtensionBit};
 ghost use Rattle.contents.specs.Contents.{readContents, readFixed, readPtsDts, readEscr, readEsRate, readCopyInfo, readCrc};
-ghost use Rattle.contents.specs.Contents.{readExtension, readPayload};
-ghost use Rattle.contents.specs.Contents.{escrAnswer, escrAt, rateAt, trickAt, copyInfoAt, crcAt, fieldsEnd, payloadAt, makeRate};
+ghost use Rattle.contents.specs.Contents.{readPesExtension, readParsedPayload};
+ghost use Rattle.contents.specs.Contents.{escrAnswer, escrAt, esRateAt, trickAt, copyInfoAt, crcAt, fieldsEnd, payloadAt, makeRate};
 ghost use Rattle.contents.specs.Contents.{rateBytes};
 ghost use Rattle.contents.specs.Trick.{readTrick, readRawTrick, trickByte, truncationBits};
 ghost use Rattle.contents.specs.Given.{givenContents, givenByte, givenAlignment, givenCopyright, givenOriginal, givenStamp};
@@ -95,7 +95,7 @@ fn escr_flag(buf: &[u8]) -> bool
 
 fn esrate_flag(buf: &[u8]) -> bool
     requires { ⌜ 3 ≤ length (now buf) ⌝ }
-    ensures { λ r. ⌜ r ≡ flag (now (buf .entry)) rateBit ⌝ }
+    ensures { λ r. ⌜ r ≡ flag (now (buf .entry)) esRateBit ⌝ }
 {
     buf[1] / 16 % 2 == 1
 }
@@ -123,7 +123,7 @@ fn pes_crc_flag(buf: &[u8]) -> bool
 
 fn pes_extension_flag(buf: &[u8]) -> bool
     requires { ⌜ 3 ≤ length (now buf) ⌝ }
-    ensures { λ r. ⌜ r ≡ flag (now (buf .entry)) extensionBit ⌝ }
+    ensures { λ r. ⌜ r ≡ flag (now (buf .entry)) pesExtensionBit ⌝ }
 {
     buf[1] % 2 == 1
 }
@@ -151,7 +151,7 @@ fn pts_dts_end(buf: &[u8]) -> usize
 
 fn escr_end(buf: &[u8]) -> usize
     requires { ⌜ 3 ≤ length (now buf) ⌝ }
-    ensures { λ r. ⌜ (r ≡ rateAt (now (buf .entry))) × (r ≤ 19) ⌝ }
+    ensures { λ r. ⌜ (r ≡ esRateAt (now (buf .entry))) × (r ≤ 19) ⌝ }
 {
     let at = pts_dts_end(buf);
     if escr_flag(buf) {
@@ -212,7 +212,7 @@ pub enum ByteRead {
 }
 
 pub fn pes_priority(buf: &[u8]) -> ByteRead
-    ensures { λ r. ⌜ givenByte r ≡ readFixed priorityBit 1 (now (buf .entry)) ⌝ }
+    ensures { λ r. ⌜ givenByte r ≡ readFixed pesPriorityBit 1 (now (buf .entry)) ⌝ }
 {
     match from_bytes(buf) {
         ContentsRead::Refused(r) => ByteRead::Refused(r),
@@ -662,7 +662,7 @@ pub enum PartRead {
 
 // Where the PES extension lies: from the end of the flagged fields to the end of the header data.
 pub fn pes_extension_at(buf: &[u8]) -> PartRead
-    ensures { λ r. ⌜ givenPart r ≡ readExtension (now (buf .entry)) ⌝ }
+    ensures { λ r. ⌜ givenPart r ≡ readPesExtension (now (buf .entry)) ⌝ }
 {
     match from_bytes(buf) {
         ContentsRead::Refused(r) => PartRead::Refused(r),
@@ -682,7 +682,7 @@ pub fn pes_extension_at(buf: &[u8]) -> PartRead
 
 // The PES extension; what it holds is not read.
 pub fn pes_extension(buf: &[u8]) -> &[u8]
-    ensures { λ r. ⌜ now r ≡ partOf (readExtension (now (buf .entry))) (now (buf .entry)) ⌝ }
+    ensures { λ r. ⌜ now r ≡ partOf (readPesExtension (now (buf .entry))) (now (buf .entry)) ⌝ }
 {
     let PartRead::Done { place, length } = pes_extension_at(buf) else {
         return &buf[0..0];
@@ -692,7 +692,7 @@ pub fn pes_extension(buf: &[u8]) -> &[u8]
 
 // Where the payload lies that came in the same packet as the header.
 pub fn payload_at(buf: &[u8]) -> PartRead
-    ensures { λ r. ⌜ givenPart r ≡ readPayload (now (buf .entry)) ⌝ }
+    ensures { λ r. ⌜ givenPart r ≡ readParsedPayload (now (buf .entry)) ⌝ }
 {
     match from_bytes(buf) {
         ContentsRead::Refused(r) => PartRead::Refused(r),
@@ -708,7 +708,7 @@ pub fn payload_at(buf: &[u8]) -> PartRead
 
 // The payload that came in the same packet as the header.
 pub fn payload(buf: &[u8]) -> &[u8]
-    ensures { λ r. ⌜ now r ≡ partOf (readPayload (now (buf .entry))) (now (buf .entry)) ⌝ }
+    ensures { λ r. ⌜ now r ≡ partOf (readParsedPayload (now (buf .entry))) (now (buf .entry)) ⌝ }
 {
     let PartRead::Done { place, length } = payload_at(buf) else {
         return &buf[0..0];

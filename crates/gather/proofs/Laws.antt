@@ -29,8 +29,8 @@ use Rattle.gather.specs.declared.Gathering.{Gathering}
 use Rattle.gather.specs.declared.HeldRead.{HeldRead}
 use Rattle.gather.proofs.HeldRead.{the-type}
 use Rattle.gather.specs.Belongs.{eventBytes, ownPlace, ownBytes}
-use Rattle.gather.specs.Gather.{gathering, emptied, wrongEvent, leavesPacket, wrongGathering, kept, added, next, notGathered, numberOf, Outcome}
-use Rattle.gather.specs.Gather.{outcome, gatherOf, storeOf, givenHeld, notRead, readOf, lying, heldBytes, CallStands, rested, appended}
+use Rattle.gather.specs.Gather.{gathering, emptied, wrongEvent, leavesPacket, wrongGathering, kept, added, nextGathering, notGathered, gatherNumber, GatherOutcome}
+use Rattle.gather.specs.Gather.{gatherOutcome, gatherOf, storeOf, givenHeld, notRead, readOf, lying, heldBytes, CallStands, rested, appended}
 
 -- ---- which bytes belong to a unit
 
@@ -244,24 +244,24 @@ module _ (g : Gathering) (p : List ℕ) (e : Event) where
       go false f = added-none b (eqb-false (e .kind) 3 f)
 
   -- the state after it
-  pub next-start : e .kind ≡ 1 → next g p e ≡ g
-  unfolding next
+  pub next-start : e .kind ≡ 1 → nextGathering g p e ≡ g
+  unfolding nextGathering
   next-start k = simp k
 
-  pub next-begin : e .kind ≡ 2 → next g p e ≡ gathering true (length (ownBytes (eventBytes p e))) (Packet (e .place + ownPlace (eventBytes p e)))
-  unfolding next
+  pub next-begin : e .kind ≡ 2 → nextGathering g p e ≡ gathering true (length (ownBytes (eventBytes p e))) (Packet (e .place + ownPlace (eventBytes p e)))
+  unfolding nextGathering
   next-begin k = simp (k, ← added-begin k)
 
-  pub next-continue : e .kind ≡ 3 → next g p e ≡ gathering (g .opened) (g .count + length (added g p e)) Store
-  unfolding next
+  pub next-continue : e .kind ≡ 3 → nextGathering g p e ≡ gathering (g .opened) (g .count + length (added g p e)) Store
+  unfolding nextGathering
   next-continue k = simp k
 
-  pub next-end : e .kind ≡ 4 → next g p e ≡ gathering false (g .count) Store
-  unfolding next
+  pub next-end : e .kind ≡ 4 → nextGathering g p e ≡ gathering false (g .count) Store
+  unfolding nextGathering
   next-end k = simp k
 
-  pub next-break : e .kind ≡ 5 → next g p e ≡ emptied
-  unfolding next
+  pub next-break : e .kind ≡ 5 → nextGathering g p e ≡ emptied
+  unfolding nextGathering
   next-break k = simp k
 
 -- where it adds nothing
@@ -279,11 +279,11 @@ module _ (g : Gathering) (k : ℕ) where
   rest-closed g′ a b f = simp (ne-eqb k 1 a, ne-eqb k 5 b) f
 
 module _ (g : Gathering) (p : List ℕ) (e : Event) (i : wrongEvent e ≡ false) (b : e .kind ≡ 2 → ⊥) (z : e .kind ≡ 3 → g .opened ≡ false) where
-  rested-next : rested g (e .kind) ≡ next g p e
+  rested-next : rested g (e .kind) ≡ nextGathering g p e
   rested-next = go (eqb (e .kind) 1) refl (eqb (e .kind) 3) refl (eqb (e .kind) 4) refl
     where
       go : (t₁ : Bool) → eqb (e .kind) 1 ≡ t₁ → (t₃ : Bool) → eqb (e .kind) 3 ≡ t₃ → (t₄ : Bool) → eqb (e .kind) 4 ≡ t₄
-          → rested g (e .kind) ≡ next g p e
+          → rested g (e .kind) ≡ nextGathering g p e
       go true f₁ t₃ f₃ t₄ f₄ = let k = eqb-true (e .kind) 1 f₁ in sym (rest-start g (e .kind) k) ∙ sym (next-start g p e k)
       go false f₁ true f₃ t₄ f₄ =
           let k = eqb-true (e .kind) 3 f₃ in
@@ -308,15 +308,15 @@ module _ (k : ℕ) (o : Bool) where
   pub extends-open : k ≡ 3 → o ≡ pick (eqb k 3) o false
   extends-open h = simp h
 
-pub full-is : (g′ : Gathering) → g′ ≡ emptied → outcome 20 g′ ≡ outcome 20 emptied
-full-is g′ e = ap (outcome 20) e
+pub full-is : (g′ : Gathering) → g′ ≡ emptied → gatherOutcome 20 g′ ≡ gatherOutcome 20 emptied
+full-is g′ e = ap (gatherOutcome 20) e
 
-module _ (k : ℕ) (l : Lies) (xs s : List ℕ) (o : Outcome) where
-  pub appended-full : k ≤ length s → length s - k < length xs → o ≡ outcome 20 emptied → o ≡ appended k l xs s
+module _ (k : ℕ) (l : Lies) (xs s : List ℕ) (o : GatherOutcome) where
+  pub appended-full : k ≤ length s → length s - k < length xs → o ≡ gatherOutcome 20 emptied → o ≡ appended k l xs s
   unfolding appended
   appended-full i h e = simp (lt-leb (k + length xs) (length s) (omega arith)) e
 
-  pub appended-done : k ≤ length s → length xs ≤ length s - k → o ≡ outcome 0 (gathering true (k + length xs) l) → o ≡ appended k l xs s
+  pub appended-done : k ≤ length s → length xs ≤ length s - k → o ≡ gatherOutcome 0 (gathering true (k + length xs) l) → o ≡ appended k l xs s
   unfolding appended
   appended-done i h e = simp (le-leb (k + length xs) (length s) (omega arith)) e
 
@@ -334,59 +334,59 @@ module _ (k : ℕ) (xs s : List ℕ) where
 -- ---- a call
 
 -- an outcome and a store's bytes are those of a call
-abbrev Meets : Gathering → List ℕ → Event → List ℕ → Outcome → List ℕ → Type 0
+abbrev Meets : Gathering → List ℕ → Event → List ℕ → GatherOutcome → List ℕ → Type 0
 Meets g p e s o s′ = (o ≡ gatherOf g p e s) × (s′ ≡ storeOf g p e s)
 
 module _ (g : Gathering) (p : List ℕ) (e : Event) (s : List ℕ) where
   -- 20 apart, a refusal leaves state and store
-  refused : (n : ℕ) → numberOf g p e s ≡ n → eqb n 0 ≡ false → eqb n 20 ≡ false → Meets g p e s (outcome n g) s
+  refused : (n : ℕ) → gatherNumber g p e s ≡ n → eqb n 0 ≡ false → eqb n 20 ≡ false → Meets g p e s (gatherOutcome n g) s
   unfolding gatherOf storeOf
   refused n z a b = simp (z, a, b) (refl, refl)
 
-  pub wrong-length : (length p ≡ 188 → ⊥) → Meets g p e s (outcome 1 g) s
-  unfolding numberOf notGathered
+  pub wrong-length : (length p ≡ 188 → ⊥) → Meets g p e s (gatherOutcome 1 g) s
+  unfolding gatherNumber notGathered
   wrong-length h = refused 1 (short-packet p _ h) refl refl
 
   module _ (l : length p ≡ 188) where
-    pub no-sync : (getD p 0 0 ≡ 71 → ⊥) → Meets g p e s (outcome 2 g) s
-    unfolding numberOf notGathered
+    pub no-sync : (getD p 0 0 ≡ 71 → ⊥) → Meets g p e s (gatherOutcome 2 g) s
+    unfolding gatherNumber notGathered
     no-sync h = refused 2 (unsynced p _ l h) refl refl
 
     module _ (y : getD p 0 0 ≡ 71) where
-      pub bad-event : wrongEvent e ≡ true → Meets g p e s (outcome 14 g) s
-      unfolding numberOf notGathered
+      pub bad-event : wrongEvent e ≡ true → Meets g p e s (gatherOutcome 14 g) s
+      unfolding gatherNumber notGathered
       bad-event h = refused 14 (past-packet p _ l y ∙ rw h) refl refl
 
-      pub bad-gathering : wrongEvent e ≡ false → wrongGathering g (length s) ≡ true → Meets g p e s (outcome 14 g) s
-      unfolding numberOf notGathered
+      pub bad-gathering : wrongEvent e ≡ false → wrongGathering g (length s) ≡ true → Meets g p e s (gatherOutcome 14 g) s
+      unfolding gatherNumber notGathered
       bad-gathering h k = refused 14 (past-packet p _ l y ∙ rw (h, k)) refl refl
 
   module _ (h : CallStands g p e s) where
-    number-full : length s < kept g e + length (added g p e) → numberOf g p e s ≡ 20
-    unfolding numberOf notGathered
+    number-full : length s < kept g e + length (added g p e) → gatherNumber g p e s ≡ 20
+    unfolding gatherNumber notGathered
     number-full k = past-packet p _ (h .0) (h .1) ∙ rw (h .2, h .3, lt-ltb (length s) (kept g e + length (added g p e)) k)
 
-    pub number-done : kept g e + length (added g p e) ≤ length s → numberOf g p e s ≡ 0
-    unfolding numberOf notGathered
+    pub number-done : kept g e + length (added g p e) ≤ length s → gatherNumber g p e s ≡ 0
+    unfolding gatherNumber notGathered
     number-done k = past-packet p _ (h .0) (h .1) ∙ rw (h .2, h .3, le-ltb (length s) (kept g e + length (added g p e)) k)
 
-    pub full : length s < kept g e + length (added g p e) → Meets g p e s (outcome 20 emptied) s
+    pub full : length s < kept g e + length (added g p e) → Meets g p e s (gatherOutcome 20 emptied) s
     unfolding gatherOf storeOf
     full k = simp (number-full k) (refl, refl)
 
-  pub taken : (g′ : Gathering) (s′ : List ℕ) → numberOf g p e s ≡ 0 → g′ ≡ next g p e → s′ ≡ placedAt s (kept g e) (added g p e)
-      → Meets g p e s (outcome 0 g′) s′
+  pub taken : (g′ : Gathering) (s′ : List ℕ) → gatherNumber g p e s ≡ 0 → g′ ≡ nextGathering g p e → s′ ≡ placedAt s (kept g e) (added g p e)
+      → Meets g p e s (gatherOutcome 0 g′) s′
   unfolding gatherOf storeOf
-  taken g′ s′ z f k = simp z (ap (outcome 0) f, k)
+  taken g′ s′ z f k = simp z (ap (gatherOutcome 0) f, k)
 
   -- bytes that are kept and bytes that are added
-  meets : CallStands g p e s → (l : Lies) (k : ℕ) (xs : List ℕ) → k ≡ kept g e → xs ≡ added g p e → gathering true (k + length xs) l ≡ next g p e
+  meets : CallStands g p e s → (l : Lies) (k : ℕ) (xs : List ℕ) → k ≡ kept g e → xs ≡ added g p e → gathering true (k + length xs) l ≡ nextGathering g p e
       → Meets g p e s (appended k l xs s) (placedAt s k xs)
   unfolding appended
   meets h l k xs d x y = go (leb (k + length xs) (length s)) refl (rw (d, x))
     where
       go : (t : Bool) → leb (k + length xs) (length s) ≡ t → k + length xs ≡ kept g e + length (added g p e)
-          → Meets g p e s (pick t (outcome 0 (gathering true (k + length xs) l)) (outcome 20 emptied)) (placedAt s k xs)
+          → Meets g p e s (pick t (gatherOutcome 0 (gathering true (k + length xs) l)) (gatherOutcome 20 emptied)) (placedAt s k xs)
       go true f r = taken _ _ (number-done h (omega (arith, leb-true (k + length xs) (length s) f))) y (rw (d, x))
       go false f r =
           let c = leb-false (k + length xs) (length s) f in
@@ -396,14 +396,14 @@ module _ (g : Gathering) (p : List ℕ) (e : Event) (s : List ℕ) where
   -- an event that is not refused with 14, by how the code asks for it: an outcome and a store's bytes that are as said are those of the call
   module _ (h : CallStands g p e s) where
     module _ (r : Bool) (t : r ≡ pick (eqb (e .kind) 3) (g .opened) false) where
-      meets-none : r ≡ false → (e .kind ≡ 2 → ⊥) → (g′ : Gathering) → g′ ≡ rested g (e .kind) → Meets g p e s (outcome 0 g′) s
+      meets-none : r ≡ false → (e .kind ≡ 2 → ⊥) → (g′ : Gathering) → g′ ≡ rested g (e .kind) → Meets g p e s (gatherOutcome 0 g′) s
       meets-none f b g′ m =
           let z : e .kind ≡ 3 → g .opened ≡ false = λ k. not-both (eqb (e .kind) 3) (g .opened) (sym t ∙ f) (eq-eqb (e .kind) 3 k) in
           let j = added-rest g p e b z in
           let c : kept g e + length (added g p e) ≤ length s = rw (← j) (omega (arith, kept-other g e b, count-inside g (length s) (h .3))) in
           taken g′ s (number-done h c) (m ∙ rested-next g p e (h .2) b z) (rw (← j) (placed-none s (kept g e)))
 
-      pub none-outcome : (o : Outcome) (g′ : Gathering) → r ≡ false → (e .kind ≡ 2 → ⊥) → g′ ≡ rested g (e .kind) → o ≡ outcome 0 g′ → o ≡ gatherOf g p e s
+      pub none-outcome : (o : GatherOutcome) (g′ : Gathering) → r ≡ false → (e .kind ≡ 2 → ⊥) → g′ ≡ rested g (e .kind) → o ≡ gatherOutcome 0 g′ → o ≡ gatherOf g p e s
       none-outcome o g′ f b m y = y ∙ meets-none f b g′ m .0
 
       pub none-store : r ≡ false → (e .kind ≡ 2 → ⊥) → s ≡ storeOf g p e s
@@ -417,7 +417,7 @@ module _ (g : Gathering) (p : List ℕ) (e : Event) (s : List ℕ) where
           let x : cut (e .place) (e .length) p ≡ added g p e = named p e (h .0) (h .2) ∙ added-open g p e k (a .1) in
           meets h Store _ _ (sym (kept-other g e (λ z. omega arith))) x (sym (next-continue g p e k ∙ rw (← x, a .1)))
 
-      pub open-outcome : (o : Outcome) → r ≡ true → o ≡ appended (g .count) Store (cut (e .place) (e .length) p) s → o ≡ gatherOf g p e s
+      pub open-outcome : (o : GatherOutcome) → r ≡ true → o ≡ appended (g .count) Store (cut (e .place) (e .length) p) s → o ≡ gatherOf g p e s
       open-outcome o f i = i ∙ meets-open f .0
 
       pub open-store : (s′ : List ℕ) → r ≡ true → s′ ≡ placedAt s (g .count) (cut (e .place) (e .length) p) → s′ ≡ storeOf g p e s
@@ -431,7 +431,7 @@ module _ (g : Gathering) (p : List ℕ) (e : Event) (s : List ℕ) where
           let z : 0 + length (ownBytes (eventBytes p e)) ≡ length (ownBytes (eventBytes p e)) = omega arith in
           meets h (Packet (e .place + a)) _ _ (sym (kept-begin g e k)) (x ∙ added-begin g p e k) (sym (next-begin g p e k ∙ rw (x, z, w .0, f)))
 
-      pub begin-outcome : (o : Outcome) → o ≡ appended 0 (Packet (e .place + a)) (cut (e .place + a) n p) s → o ≡ gatherOf g p e s
+      pub begin-outcome : (o : GatherOutcome) → o ≡ appended 0 (Packet (e .place + a)) (cut (e .place + a) n p) s → o ≡ gatherOf g p e s
       begin-outcome o i = i ∙ meets-begin .0
 
       pub begin-store : (s′ : List ℕ) → s′ ≡ placedAt s 0 (cut (e .place + a) n p) → s′ ≡ storeOf g p e s

@@ -16,7 +16,7 @@ use Rattle.gather.specs.declared.Gathering.{Gathering}
 use Rattle.gather.specs.declared.row.RowRead.{RowRead}
 use Rattle.gather.specs.declared.row.RowRead.the-variants.{Is, Stray}
 use Rattle.gather.specs.Gather.{gathering}
-use Rattle.gather.specs.Row.{liesOf, liesNumber, gatheringOf, rowOf}
+use Rattle.gather.specs.Row.{liesOf, liesNumber, gatheringOf, gatheringRow}
 
 module _ (n : ℕ) where
   pub lies-store : n ≡ 255 → Store ≡ liesOf n
@@ -34,8 +34,8 @@ module _ (xs : List ℕ) where
   unfolding gatheringOf
   row-stands l h e = simp (le-ltb 1 (getD xs 0 0) h, e)
 
-pub row-is : (g : Gathering) (a : ℕ) → a ≡ liesNumber (g .lies) → truth (g .opened) ∷ g .count ∷ a ∷ [] ≡ rowOf g
-unfolding rowOf
+pub row-is : (g : Gathering) (a : ℕ) → a ≡ liesNumber (g .lies) → truth (g .opened) ∷ g .count ∷ a ∷ [] ≡ gatheringRow g
+unfolding gatheringRow
 row-is g a e = rw e
 
 pub ruleset row-laws = (lies-store, lies-packet, stray-open, row-stands, row-is, needs)
@@ -43,8 +43,8 @@ pub ruleset row-laws = (lies-store, lies-packet, stray-open, row-stands, row-is,
 -- ---- a row reads back
 
 -- the row of a state that is not refused by 14 stands for that state: no packet has a place 255
-pub row-back : (g : Gathering) → ((a : ℕ) → g .lies ≡ Packet a → a ≤ 188) → gatheringOf (rowOf g) ≡ Is g
-unfolding gatheringOf rowOf
+pub row-back : (g : Gathering) → ((a : ℕ) → g .lies ≡ Packet a → a ≤ 188) → gatheringOf (gatheringRow g) ≡ Is g
+unfolding gatheringOf gatheringRow
 row-back g h = opens (g .opened) (g .lies) h
   where
     opens : (o : Bool) (l : Lies) → ((a : ℕ) → l ≡ Packet a → a ≤ 188)

@@ -22,8 +22,8 @@ use Rattle.gather.specs.declared.Gathered.{Gathered}
 use Rattle.gather.specs.declared.HeldRead.{HeldRead}
 use Rattle.gather.specs.declared.Verdict.{Verdict}
 use Rattle.gather.specs.Belongs.{ownPlace, ownBytes}
-use Rattle.gather.specs.Gather.{gathering, emptied, kept, added, notGathered, numberOf, Outcome}
-use Rattle.gather.specs.Gather.{verdictNumber, given, gatherOf, storeOf, givenHeld, heldBytes}
+use Rattle.gather.specs.Gather.{gathering, emptied, kept, added, notGathered, gatherNumber, GatherOutcome}
+use Rattle.gather.specs.Gather.{storeNumber, givenGathered, gatherOf, storeOf, givenHeld, heldBytes}
 
 -- ---- one answer only: any two answers that meet a function's promise are equal
 
@@ -32,7 +32,7 @@ verdictOf n =
     pick (eqb n 0) Verdict.Done
     (pick (eqb n 1) Verdict.WrongLength (pick (eqb n 2) Verdict.NoSync (pick (eqb n 14) Verdict.OutOfRange Verdict.StoreFull)))
 
-verdict-back : (v : Verdict) → verdictOf (verdictNumber v) ≡ v
+verdict-back : (v : Verdict) → verdictOf (storeNumber v) ≡ v
 unfolding verdictOf
 verdict-back Verdict.Done = refl
 verdict-back Verdict.WrongLength = refl
@@ -40,17 +40,17 @@ verdict-back Verdict.NoSync = refl
 verdict-back Verdict.OutOfRange = refl
 verdict-back Verdict.StoreFull = refl
 
-back : Outcome → Gathered
+back : GatherOutcome → Gathered
 back o = record { verdict = verdictOf (o .number); gathering = o .gathering }
 
-back-given : (r : Gathered) → back (given r) ≡ r
+back-given : (r : Gathered) → back (givenGathered r) ≡ r
 unfolding back
 back-given r = ap (λ (v : Verdict). record { verdict = v; gathering = r .gathering }) (verdict-back (r .verdict))
 
 -- a call: verdict and state, and the store's bytes after it
 pub one-gathered : (g : Gathering) (p : List ℕ) (e : Event) (s : List ℕ) (a b : Gathered) (x y : List ℕ)
-    → (given a ≡ gatherOf g p e s) × (x ≡ storeOf g p e s) → (given b ≡ gatherOf g p e s) × (y ≡ storeOf g p e s) → (a ≡ b) × (x ≡ y)
-one-gathered g p e s a b x y h k = (one-answer given back back-given (gatherOf g p e s) a b (h .0) (k .0), h .1 ∙ sym (k .1))
+    → (givenGathered a ≡ gatherOf g p e s) × (x ≡ storeOf g p e s) → (givenGathered b ≡ gatherOf g p e s) × (y ≡ storeOf g p e s) → (a ≡ b) × (x ≡ y)
+one-gathered g p e s a b x y h k = (one-answer givenGathered back back-given (gatherOf g p e s) a b (h .0) (k .0), h .1 ∙ sym (k .1))
 
 heldBack : ℕ → HeldRead
 heldBack n = pick (eqb n 0) HeldRead.Done (pick (eqb n 1) HeldRead.WrongLength (pick (eqb n 2) HeldRead.NoSync HeldRead.OutOfRange))
@@ -76,8 +76,8 @@ one-new a b h k = h ∙ sym k
 
 module _ (g : Gathering) (p : List ℕ) (e : Event) (s : List ℕ) where
   -- a call that is answered by 0 has room for what it adds
-  room-there : numberOf g p e s ≡ 0 → kept g e + length (added g p e) ≤ length s
-  unfolding numberOf notGathered notPacket
+  room-there : gatherNumber g p e s ≡ 0 → kept g e + length (added g p e) ≤ length s
+  unfolding gatherNumber notGathered notPacket
   room-there z =
       let h = firstOf-off (notGathered g p e s) (omega arith) z in
       ltb-false (length s) (kept g e + length (added g p e)) (h .1 .1 .1 .1 .0)
@@ -86,17 +86,17 @@ module _ (g : Gathering) (p : List ℕ) (e : Event) (s : List ℕ) where
       × ((i : ℕ) → i < kept g e → getD (storeOf g p e s) i 0 ≡ getD s i 0)
       × ((i : ℕ) → kept g e + length (added g p e) ≤ i → getD (storeOf g p e s) i 0 ≡ getD s i 0)
   unfolding storeOf
-  only-added = go (eqb (numberOf g p e s) 0) refl
+  only-added = go (eqb (gatherNumber g p e s) 0) refl
     where
       x : List ℕ
       x = placedAt s (kept g e) (added g p e)
 
-      go : (t : Bool) → eqb (numberOf g p e s) 0 ≡ t
+      go : (t : Bool) → eqb (gatherNumber g p e s) 0 ≡ t
           → (length (pick t x s) ≡ length s)
           × ((i : ℕ) → i < kept g e → getD (pick t x s) i 0 ≡ getD s i 0)
           × ((i : ℕ) → kept g e + length (added g p e) ≤ i → getD (pick t x s) i 0 ≡ getD s i 0)
       go true f =
-          let h = room-there (eqb-true (numberOf g p e s) 0 f) in
+          let h = room-there (eqb-true (gatherNumber g p e s) 0 f) in
           let k = kept g e in
           let a = added g p e in
           (length-placed s k a, placed-before s k a h, placed-after s k a h)

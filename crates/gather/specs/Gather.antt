@@ -56,8 +56,8 @@ added g p e =
     (pick (is continuePacket e) (pick (g .opened) (eventBytes p e) []) [])
 
 -- the state after it
-unfoldable pub next : Gathering → List ℕ → Event → Gathering
-next g p e =
+unfoldable pub nextGathering : Gathering → List ℕ → Event → Gathering
+nextGathering g p e =
     pick (is startStream e) g
     (pick (is beginPacket e) (gathering true (length (added g p e)) (Packet (e .place + ownPlace (eventBytes p e))))
     (pick (is continuePacket e) (gathering (g .opened) (g .count + length (added g p e)) Store)
@@ -75,37 +75,37 @@ notGathered g p e s =
     ∷ ltb (length s) (kept g e + length (added g p e)) gives storeFull
     ∷ [])
 
-unfoldable pub numberOf : Gathering → List ℕ → Event → List ℕ → ℕ
-numberOf g p e s = firstOf (notGathered g p e s)
+unfoldable pub gatherNumber : Gathering → List ℕ → Event → List ℕ → ℕ
+gatherNumber g p e s = firstOf (notGathered g p e s)
 
 -- an answer's number and the state after it
-pub record Outcome : Type 0 where
+pub record GatherOutcome : Type 0 where
   pub number : ℕ
   pub gathering : Gathering
 
-abbrev pub outcome : ℕ → Gathering → Outcome
-outcome n g = record { number = n; gathering = g }
+abbrev pub gatherOutcome : ℕ → Gathering → GatherOutcome
+gatherOutcome n g = record { number = n; gathering = g }
 
-abbrev pub verdictNumber : Verdict → ℕ
-verdictNumber Verdict.Done = done
-verdictNumber Verdict.WrongLength = wrongLength
-verdictNumber Verdict.NoSync = noSync
-verdictNumber Verdict.OutOfRange = outOfRange
-verdictNumber Verdict.StoreFull = storeFull
+abbrev pub storeNumber : Verdict → ℕ
+storeNumber Verdict.Done = done
+storeNumber Verdict.WrongLength = wrongLength
+storeNumber Verdict.NoSync = noSync
+storeNumber Verdict.OutOfRange = outOfRange
+storeNumber Verdict.StoreFull = storeFull
 
-abbrev pub given : Gathered → Outcome
-given r = outcome (verdictNumber (r .verdict)) (r .gathering)
+abbrev pub givenGathered : Gathered → GatherOutcome
+givenGathered r = gatherOutcome (storeNumber (r .verdict)) (r .gathering)
 
 -- on 20 the unit counts 0 bytes and is closed; on any other refusal the state stays
-abbrev pub after : ℕ → Gathering → Gathering → Gathering
-after n g′ g = pick (eqb n done) g′ (pick (eqb n storeFull) emptied g)
+abbrev pub gatheringAfter : ℕ → Gathering → Gathering → Gathering
+gatheringAfter n g′ g = pick (eqb n done) g′ (pick (eqb n storeFull) emptied g)
 
-unfoldable pub gatherOf : Gathering → List ℕ → Event → List ℕ → Outcome
-gatherOf g p e s = outcome (numberOf g p e s) (after (numberOf g p e s) (next g p e) g)
+unfoldable pub gatherOf : Gathering → List ℕ → Event → List ℕ → GatherOutcome
+gatherOf g p e s = gatherOutcome (gatherNumber g p e s) (gatheringAfter (gatherNumber g p e s) (nextGathering g p e) g)
 
 -- in the store only the added bytes change; on a refusal nothing does
 unfoldable pub storeOf : Gathering → List ℕ → Event → List ℕ → List ℕ
-storeOf g p e s = pick (eqb (numberOf g p e s) done) (placedAt s (kept g e) (added g p e)) s
+storeOf g p e s = pick (eqb (gatherNumber g p e s) done) (placedAt s (kept g e) (added g p e)) s
 
 -- ---- the bytes so far
 
@@ -142,5 +142,5 @@ unfoldable pub rested : Gathering → ℕ → Gathering
 rested g k = pick (eqb k startStream) g (pick (eqb k continuityError) emptied (gathering false (g .count) Store))
 
 -- so many bytes that stay and those that are added: an open unit, or 20
-unfoldable pub appended : ℕ → Lies → List ℕ → List ℕ → Outcome
-appended k l xs s = pick (leb (k + length xs) (length s)) (outcome done (gathering true (k + length xs) l)) (outcome storeFull emptied)
+unfoldable pub appended : ℕ → Lies → List ℕ → List ℕ → GatherOutcome
+appended k l xs s = pick (leb (k + length xs) (length s)) (gatherOutcome done (gathering true (k + length xs) l)) (gatherOutcome storeFull emptied)

@@ -32,8 +32,8 @@ unfoldable pub gatheringOf : List ℕ → RowRead
 gatheringOf xs = pick (ltb 1 (getD xs 0 0)) Stray (Is (gathering (eqb (getD xs 0 0) 1) (getD xs 1 0) (liesOf (getD xs 2 0))))
 
 -- THE ROW OF A GATHERING STATE
-unfoldable pub rowOf : Gathering → List ℕ
-rowOf g = truth (g .opened) ∷ g .count ∷ liesNumber (g .lies) ∷ []
+unfoldable pub gatheringRow : Gathering → List ℕ
+gatheringRow g = truth (g .opened) ∷ g .count ∷ liesNumber (g .lies) ∷ []
 
 -- ---- an event over a row: its number, and the row and the store after it
 
@@ -57,7 +57,7 @@ notState p = notPacket p ++ (true gives outOfRange ∷ [])
 abbrev pub gatherBy : RowRead → List ℕ → List ℕ → Event → List ℕ → RowGather
 gatherBy Stray xs p e s = rowGather (firstOf (notState p)) xs s
 gatherBy (Is g) xs p e s =
-    rowGather (gatherOf g p e s .number) (pick (moves (gatherOf g p e s .number)) (rowOf (gatherOf g p e s .gathering)) xs) (storeOf g p e s)
+    rowGather (gatherOf g p e s .number) (pick (moves (gatherOf g p e s .number)) (gatheringRow (gatherOf g p e s .gathering)) xs) (storeOf g p e s)
 
 unfoldable pub rowGatherOf : List ℕ → List ℕ → Event → List ℕ → RowGather
 rowGatherOf xs p e s = gatherBy (gatheringOf xs) xs p e s

@@ -9,7 +9,7 @@ ghost use Rattle.bits.specs.Numbers.{done, storeFull};
 ghost use Rattle.log.specs.Entry.{continuePacket};
 ghost use Rattle.gather.specs.Belongs.{ownPlace, ownBytes};
 ghost use Rattle.gather.specs.Gather.{gathering, emptied, wrongEvent, wrongGathering, CallStands, rested, appended};
-ghost use Rattle.gather.specs.Gather.{outcome, given, gatherOf, storeOf, readOf, givenHeld, heldBytes};
+ghost use Rattle.gather.specs.Gather.{gatherOutcome, givenGathered, gatherOf, storeOf, readOf, givenHeld, heldBytes};
 use bits::copy_at;
 use bits::part;
 use log::BEGIN_PACKET;
@@ -17,6 +17,8 @@ use log::CONTINUE_PACKET;
 use log::CONTINUITY_ERROR;
 use log::Event;
 use log::START_STREAM;
+use packet::SIZE;
+use packet::SYNC_BYTE;
 use pes_header::PayloadRead;
 
 pub mod row;
@@ -103,7 +105,7 @@ fn wrong_event(event: Event) -> bool
     if CONTINUITY_ERROR < event.kind {
         return true;
     }
-    188 < event.place as usize + event.length as usize
+    SIZE < event.place as usize + event.length as usize
 }
 
 // A state whose bytes leave the store, or the packet where they lie there.
@@ -118,10 +120,10 @@ fn wrong_gathering(g: Gathering, room: usize) -> bool
     let Lies::Packet(place) = lies else {
         return false;
     };
-    if 188 < place {
+    if SIZE < place {
         return true;
     }
-    188 - place < count
+    SIZE - place < count
 }
 
 // ---- what an event does
@@ -162,7 +164,7 @@ fn extends(g: Gathering, kind: u8) -> bool
 
 // On 20 the unit counts no bytes and is closed.
 fn full() -> Gathered
-    ensures { λ r. ⌜ given r ≡ outcome storeFull emptied ⌝ }
+    ensures { λ r. ⌜ givenGathered r ≡ gatherOutcome storeFull emptied ⌝ }
 {
     Gathered {
         verdict: Verdict::StoreFull,
@@ -172,7 +174,7 @@ fn full() -> Gathered
 
 // An event that was taken, and the state after it.
 fn accepted(gathering: Gathering) -> Gathered
-    ensures { λ r. ⌜ given r ≡ outcome done gathering ⌝ }
+    ensures { λ r. ⌜ givenGathered r ≡ gatherOutcome done gathering ⌝ }
 {
     Gathered {
         verdict: Verdict::Done,
@@ -184,13 +186,13 @@ fn accepted(gathering: Gathering) -> Gathered
 // the compiler two slices of a caller may be one memory, which it would copy in small pieces: by way of an array of its own it is one move.
 fn appends(from: &[u8], store: &mut [u8], kept: usize, lies: Lies) -> Gathered
     requires { ⌜ (length (now from) ≤ 188) × (kept ≤ length (now store)) ⌝ }
-    ensures { λ r. ⌜ (given r ≡ appended kept lies (now (from .entry)) (now (store .entry)))
+    ensures { λ r. ⌜ (givenGathered r ≡ appended kept lies (now (from .entry)) (now (store .entry)))
         × (now (store .exit) ≡ placedAt (now (store .entry)) kept (now (from .entry))) ⌝ }
 {
     if store.len() - kept < from.len() {
         return full();
     }
-    let mut image = [0u8; 188];
+    let mut image = [0u8; SIZE];
     copy_at(from, &mut image, 0);
     copy_at(&image[..from.len()], store, kept);
     let count = kept + from.len();
@@ -204,7 +206,7 @@ fn appends(from: &[u8], store: &mut [u8], kept: usize, lies: Lies) -> Gathered
 // An event that is not refused with 14: 20 is what is left to refuse it.
 fn apply(g: Gathering, packet: &[u8], event: Event, store: &mut [u8]) -> Gathered
     requires { ⌜ CallStands g (now packet) event (now store) ⌝ }
-    ensures { λ r. ⌜ (given r ≡ gatherOf g (now (packet .entry)) event (now (store .entry)))
+    ensures { λ r. ⌜ (givenGathered r ≡ gatherOf g (now (packet .entry)) event (now (store .entry)))
         × (now (store .exit) ≡ storeOf g (now (packet .entry)) event (now (store .entry))) ⌝ }
 {
     let kind = event.kind;
@@ -225,16 +227,16 @@ fn apply(g: Gathering, packet: &[u8], event: Event, store: &mut [u8]) -> Gathere
 
 // One event of the packet.
 pub fn gather(g: Gathering, packet: &[u8], event: Event, store: &mut [u8]) -> Gathered
-    ensures { λ r. ⌜ (given r ≡ gatherOf g (now (packet .entry)) event (now (store .entry)))
+    ensures { λ r. ⌜ (givenGathered r ≡ gatherOf g (now (packet .entry)) event (now (store .entry)))
         × (now (store .exit) ≡ storeOf g (now (packet .entry)) event (now (store .entry))) ⌝ }
 {
-    if packet.len() != 188 {
+    if packet.len() != SIZE {
         return Gathered {
             verdict: Verdict::WrongLength,
             gathering: g,
         };
     }
-    if packet[0] != 71 {
+    if packet[0] != SYNC_BYTE {
         return Gathered {
             verdict: Verdict::NoSync,
             gathering: g,
@@ -261,10 +263,10 @@ pub fn gather(g: Gathering, packet: &[u8], event: Event, store: &mut [u8]) -> Ga
 pub fn held(g: Gathering, packet: &[u8], store: &[u8]) -> HeldRead
     ensures { λ r. ⌜ givenHeld r ≡ readOf g (now (packet .entry)) (now (store .entry)) ⌝ }
 {
-    if packet.len() != 188 {
+    if packet.len() != SIZE {
         return HeldRead::WrongLength;
     }
-    if packet[0] != 71 {
+    if packet[0] != SYNC_BYTE {
         return HeldRead::NoSync;
     }
     let room = store.len();

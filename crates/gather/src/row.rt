@@ -1,7 +1,7 @@
 // A gathering state as the row of numbers that a host keeps and lends: whether a unit is open, 0 or 1; how many bytes it has; and where
 // they lie, a place of the packet or 255 for the store.
 ghost use mathlib.Core.Path.{_≡_};
-ghost use Rattle.gather.specs.Row.{liesOf, liesNumber, gatheringOf, rowOf};
+ghost use Rattle.gather.specs.Row.{liesOf, liesNumber, gatheringOf, gatheringRow};
 use crate::Gathering;
 use crate::Lies;
 
@@ -47,7 +47,7 @@ pub fn read(row: &[u64; 3]) -> RowRead
 }
 
 pub fn write(g: Gathering, row: &mut [u64; 3])
-    ensures { λ _. ⌜ now (row .exit) ≡ rowOf g ⌝ }
+    ensures { λ _. ⌜ now (row .exit) ≡ gatheringRow g ⌝ }
 {
     let l = g.lies;
     *row = [g.opened as u64, g.count as u64, lies_number(l)];

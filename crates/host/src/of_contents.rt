@@ -2,9 +2,9 @@
 ghost use mathlib.Core.Path.{_≡_};
 ghost use mathlib.Core.List.{[], _∷_};
 ghost use lib.ListN.{getD};
-ghost use Rattle.contents.specs.Contents.{scramblingBit, priorityBit, alignmentBit, copyrightBit, originalBit, flagsBit, dataLengthBit};
-ghost use Rattle.contents.specs.Contents.{readContents, readFixed, readPtsDts, readEscr, readEsRate, readCopyInfo, readCrc, readExtension};
-ghost use Rattle.contents.specs.Contents.{readPayload, makeRate, rateBytes};
+ghost use Rattle.contents.specs.Contents.{scramblingBit, pesPriorityBit, alignmentBit, copyrightBit, originalBit, flagsBit, dataLengthBit};
+ghost use Rattle.contents.specs.Contents.{readContents, readFixed, readPtsDts, readEscr, readEsRate, readCopyInfo, readCrc, readPesExtension};
+ghost use Rattle.contents.specs.Contents.{readParsedPayload, makeRate, rateBytes};
 ghost use Rattle.contents.specs.Trick.{readTrick, readRawTrick};
 ghost use Rattle.contents.specs.Given.{refusal, givenByte, alignment, statusBit, originality, givenStamp, truncation, trickValues};
 ghost use Rattle.contents.specs.Given.{givenPart};
@@ -82,7 +82,7 @@ fn report_byte(r: ByteRead, value: &mut u64) -> u32
 // contents::pes_priority
 #[no_mangle]
 pub extern "C" fn cmv_pes_contents_pes_priority(buf: &[u8], value: &mut u64) -> u32
-    ensures { λ w. ⌜ Reports (readFixed priorityBit 1 (now (buf .entry))) w (now (value .entry) ∷ []) (now (value .exit) ∷ []) ⌝ }
+    ensures { λ w. ⌜ Reports (readFixed pesPriorityBit 1 (now (buf .entry))) w (now (value .entry) ∷ []) (now (value .exit) ∷ []) ⌝ }
 {
     report_byte(contents::pes_priority(buf), value)
 }
@@ -412,7 +412,7 @@ pub extern "C" fn cmv_pes_contents_pes_extension(
     place: &mut u64,
     length: &mut u64,
 ) -> u32
-    ensures { λ w. ⌜ Reports (readExtension (now (buf .entry))) w (now (place .entry) ∷ now (length .entry) ∷ [])
+    ensures { λ w. ⌜ Reports (readPesExtension (now (buf .entry))) w (now (place .entry) ∷ now (length .entry) ∷ [])
         (now (place .exit) ∷ now (length .exit) ∷ []) ⌝ }
 {
     report_part(contents::pes_extension_at(buf), place, length)
@@ -421,7 +421,7 @@ pub extern "C" fn cmv_pes_contents_pes_extension(
 // contents::payload_at: where what payload gives lies
 #[no_mangle]
 pub extern "C" fn cmv_pes_contents_payload(buf: &[u8], place: &mut u64, length: &mut u64) -> u32
-    ensures { λ w. ⌜ Reports (readPayload (now (buf .entry))) w (now (place .entry) ∷ now (length .entry) ∷ [])
+    ensures { λ w. ⌜ Reports (readParsedPayload (now (buf .entry))) w (now (place .entry) ∷ now (length .entry) ∷ [])
         (now (place .exit) ∷ now (length .exit) ∷ []) ⌝ }
 {
     report_part(contents::payload_at(buf), place, length)

@@ -88,16 +88,16 @@ module _ (r : gather-row.RowRead) (xs p : List ℕ) (v : Event) (s : List ℕ) (
   gather-strayed n e f =
       ap (λ (k : ℕ). store.rowGather k xs s) (f ∙ judged-alike p) ∙ (ap (λ (t : gather-row.RowRead). store.gatherBy t xs p v s) (sym e) ∙ gathered-by)
 
-  module _ (g : Gathering) (e : r ≡ gather-row.RowRead.Is g) (o : gather.Outcome) (s′ : List ℕ) (n : ℕ) (f : o ≡ gather.gatherOf g p v s) (k : s′ ≡ gather.storeOf g p v s)
+  module _ (g : Gathering) (e : r ≡ gather-row.RowRead.Is g) (o : gather.GatherOutcome) (s′ : List ℕ) (n : ℕ) (f : o ≡ gather.gatherOf g p v s) (k : s′ ≡ gather.storeOf g p v s)
       (h : n ≡ o .number) where
-    at-each : (xs′ : List ℕ) → xs′ ≡ pick (store.moves n) (store.rowOf (o .gathering)) xs → store.rowGather n xs′ s′ ≡ store.rowGatherOf xs p v s
+    at-each : (xs′ : List ℕ) → xs′ ≡ pick (store.moves n) (store.gatheringRow (o .gathering)) xs → store.rowGather n xs′ s′ ≡ store.rowGatherOf xs p v s
     at-each xs′ q = rw (q, h, f, k) (ap (λ (t : gather-row.RowRead). store.gatherBy t xs p v s) (sym e) ∙ gathered-by)
 
     module _ (b : Bool) (d : b ≡ store.moves n) where
       pub gather-stays : b ≡ false → store.rowGather n xs s′ ≡ store.rowGatherOf xs p v s
       gather-stays z = at-each xs (simp (sym d ∙ z))
 
-      pub gather-moves : (xs′ : List ℕ) → b ≡ true → xs′ ≡ store.rowOf (o .gathering) → store.rowGather n xs′ s′ ≡ store.rowGatherOf xs p v s
+      pub gather-moves : (xs′ : List ℕ) → b ≡ true → xs′ ≡ store.gatheringRow (o .gathering) → store.rowGather n xs′ s′ ≡ store.rowGatherOf xs p v s
       gather-moves xs′ z q = at-each xs′ (simp (sym d ∙ z) q)
 
 -- .. and reported by its number alone

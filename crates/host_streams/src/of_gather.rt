@@ -2,7 +2,7 @@
 ghost use mathlib.Core.Path.{_≡_};
 ghost use mathlib.Core.List.{[], _∷_};
 ghost use Rattle.log.specs.Entry.{event};
-ghost use Rattle.gather.specs.Gather.{verdictNumber};
+ghost use Rattle.gather.specs.Gather.{storeNumber};
 ghost use Rattle.gather.specs.Row.{moves, rowGather, rowGatherOf, rowHeld};
 ghost use Rattle.host.specs.Reports.{Reports};
 use crate::strayed;
@@ -19,7 +19,7 @@ use host::numbers::WRONG_LENGTH;
 use log::Event;
 
 fn number_of(v: Verdict) -> u32
-    ensures { λ r. ⌜ r ≡ verdictNumber v ⌝ }
+    ensures { λ r. ⌜ r ≡ storeNumber v ⌝ }
 {
     match v {
         Verdict::Done => DONE,

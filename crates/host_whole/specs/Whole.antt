@@ -7,11 +7,11 @@ use Rattle.bits.specs.Answer.{Answer, answer, andThen}
 use Rattle.bits.specs.Field.{field}
 use Rattle.bits.specs.Numbers.{done}
 use Rattle.packet.specs.Packet.{tried, readFlag, errorBit, startBit, priorityBit, readPid, readCounter, readAdaptation}
-use Rattle.packet.specs.Packet.{readPayload as packetPayload}
+use Rattle.packet.specs.Packet.{readPayload}
 use Rattle.pes.specs.Head.{readHead, readStreamId, readLength}
 use Rattle.pes.specs.Head.{readContentsPart}
-use Rattle.contents.specs.Contents.{scramblingBit, priorityBit as pesPriorityBit, alignmentBit, copyrightBit, originalBit, flagsBit, dataLengthBit}
-use Rattle.contents.specs.Contents.{readContents, readPtsDts, readEscr, readEsRate, readCopyInfo, readCrc, readExtension, readPayload}
+use Rattle.contents.specs.Contents.{scramblingBit, pesPriorityBit, alignmentBit, copyrightBit, originalBit, flagsBit, dataLengthBit}
+use Rattle.contents.specs.Contents.{readContents, readPtsDts, readEscr, readEsRate, readCopyInfo, readCrc, readPesExtension, readParsedPayload}
 use Rattle.contents.specs.Trick.{readTrick, readRawTrick}
 use Rattle.host.specs.Reports.{word, outs}
 use Rattle.host.specs.Packets.{readScrambling, readControl}
@@ -38,7 +38,7 @@ packetFields xs =
     ++ (numbers 2 (readScrambling xs)
     ++ (numbers 2 (readControl xs)
     ++ (row 2 (readAdaptation xs)
-    ++ row 2 (packetPayload xs))))))))))
+    ++ row 2 (readPayload xs))))))))))
 
 -- a head (clause 2.4.3.6, the PES packet table): the stream id's kind and what is kept beside it; the length's kind and the length; the
 -- kind, place and length of what follows
@@ -76,5 +76,5 @@ contentsFields c =
     ++ (row 1 (readRawTrick c)
     ++ (row 1 (readCopyInfo c)
     ++ (row 1 (readCrc c)
-    ++ (row 2 (readExtension c)
-    ++ numbers 2 (readPayload c)))))))))))
+    ++ (row 2 (readPesExtension c)
+    ++ numbers 2 (readParsedPayload c)))))))))))

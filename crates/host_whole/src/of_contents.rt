@@ -3,7 +3,7 @@ ghost use mathlib.Core.Path.{_≡_};
 ghost use mathlib.Core.List.{[], _∷_};
 ghost use Rattle.bits.specs.Numbers.{done};
 ghost use Rattle.contents.specs.Contents.{readContents, readPtsDts, readEscr, readEsRate, readCopyInfo, readCrc};
-ghost use Rattle.contents.specs.Contents.{readExtension, readPayload};
+ghost use Rattle.contents.specs.Contents.{readPesExtension, readParsedPayload};
 ghost use Rattle.contents.specs.Trick.{readTrick, readRawTrick};
 ghost use Rattle.host.specs.Reports.{Reports};
 ghost use Rattle.host_whole.specs.Whole.{numbers, row, fixedFields, contentsFields};
@@ -138,7 +138,7 @@ fn crc(buf: &[u8]) -> Pair
 }
 
 fn extension(buf: &[u8]) -> Three
-    ensures { λ r. ⌜ r .0 ∷ r .1 ∷ r .2 ∷ [] ≡ row 2 (readExtension (now (buf .entry))) ⌝ }
+    ensures { λ r. ⌜ r .0 ∷ r .1 ∷ r .2 ∷ [] ≡ row 2 (readPesExtension (now (buf .entry))) ⌝ }
 {
     let mut place = 0;
     let mut length = 0;
@@ -147,7 +147,7 @@ fn extension(buf: &[u8]) -> Three
 }
 
 fn payload(buf: &[u8]) -> Pair
-    ensures { λ r. ⌜ r .0 ∷ r .1 ∷ [] ≡ numbers 2 (readPayload (now (buf .entry))) ⌝ }
+    ensures { λ r. ⌜ r .0 ∷ r .1 ∷ [] ≡ numbers 2 (readParsedPayload (now (buf .entry))) ⌝ }
 {
     let mut place = 0;
     let mut length = 0;

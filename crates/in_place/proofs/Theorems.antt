@@ -14,7 +14,7 @@ use Rattle.machine.proofs.Theorems.{one-step, one-run}
 use Rattle.gather.specs.declared.Gathering.{Gathering}
 use Rattle.gather.specs.declared.Gathered.{Gathered}
 use Rattle.gather.specs.declared.Verdict.{Verdict as StoreVerdict}
-use Rattle.gather.specs.Gather.{outcome as storeOutcome, numberOf as gatherNumber, verdictNumber as storeNumber, gatherOf, storeOf}
+use Rattle.gather.specs.Gather.{gatherOutcome, gatherNumber, storeNumber, gatherOf, storeOf}
 use Rattle.gather.proofs.Theorems.{one-gathered}
 
 abbrev stepped : Verdict → Machine → Stepped
@@ -44,7 +44,7 @@ pub one-gather-in-place : (g : Gathering) (p : List ℕ) (e : Event) (s : List �
 one-gather-in-place g p e s a b g₁ g₂ s₁ s₂ h k =
     let q =
     one-gathered g p e s (gathered a g₁) (gathered b g₂) s₁ s₂
-    (λ i. storeOutcome (h .0 i) (h .1 i), h .2) (λ i. storeOutcome (k .0 i) (k .1 i), k .2) in
+    (λ i. gatherOutcome (h .0 i) (h .1 i), h .2) (λ i. gatherOutcome (k .0 i) (k .1 i), k .2) in
     (ap (λ (t : Gathered). t .verdict) (q .0), ap (λ (t : Gathered). t .gathering) (q .0), q .1)
 
 -- ---- a refusal leaves the state and the bytes as lent, 20 apart

@@ -3,7 +3,7 @@
 ghost use mathlib.Core.Path.{_≡_};
 ghost use Rattle.machine.specs.Step.{verdictNumber, stepOf, logOf};
 ghost use Rattle.machine.specs.Run.{reported, reportOf, ranLog};
-ghost use Rattle.gather.specs.Gather.{verdictNumber as storeNumber, gatherOf, storeOf};
+ghost use Rattle.gather.specs.Gather.{storeNumber, gatherOf, storeOf};
 use gather::Gathering;
 use log::Event;
 use machine::Machine;

@@ -9,13 +9,13 @@ use lib.Dec.{ltb}
 use borrow.Author.Tests.{lt-ltb, le-ltb}
 use lib.ListN.{length, getD, set, drop, drop-of-length-le}
 use lib.Seq.{drop-cons}
-use Rattle.page.specs.Page.{Page, filled, withByte, withBytes}
+use Rattle.page.specs.Page.{Page, pageOf, withByte, withBytes}
 
-pub room : (bs : List ℕ) (n b : ℕ) → n < 8192 → filled (set bs n b) (n + 1) ≡ withByte (filled bs n) b
+pub room : (bs : List ℕ) (n b : ℕ) → n < 8192 → pageOf (set bs n b) (n + 1) ≡ withByte (pageOf bs n) b
 unfolding withByte
 room bs n b h = rw (lt-ltb n 8192 h, add-one) refl
 
-pub full : (bs : List ℕ) (n b : ℕ) → 8192 ≤ n → filled (set bs 0 b) 1 ≡ withByte (filled bs n) b
+pub full : (bs : List ℕ) (n b : ℕ) → 8192 ≤ n → pageOf (set bs 0 b) 1 ≡ withByte (pageOf bs n) b
 unfolding withByte
 full bs n b h = rw (le-ltb n 8192 h) refl
 

@@ -10,12 +10,12 @@ pub record Page : Type 0 where
   pub bytes : List ℕ
   pub used : ℕ
 
-abbrev pub filled : List ℕ → ℕ → Page
-filled bs n = record { bytes = bs; used = n }
+abbrev pub pageOf : List ℕ → ℕ → Page
+pageOf bs n = record { bytes = bs; used = n }
 
 -- a byte more: on a full page, which is written first, it is the first
 unfoldable pub withByte : Page → ℕ → Page
-withByte p b = pick (ltb (p .used) 8192) (filled (set (p .bytes) (p .used) b) (suc (p .used))) (filled (set (p .bytes) 0 b) 1)
+withByte p b = pick (ltb (p .used) 8192) (pageOf (set (p .bytes) (p .used) b) (suc (p .used))) (pageOf (set (p .bytes) 0 b) 1)
 
 -- bytes more, one after another
 abbrev pub withBytes : Page → List ℕ → Page

@@ -1,7 +1,7 @@
 // A program's output is gathered on a page, which is written when it is full: one system call for many lines. A function that adds to the
 // page gives back how much of it is then used. A write that fails is not reported: bytes are missing then.
 ghost use mathlib.Core.Path.{_≡_};
-ghost use Rattle.page.specs.Page.{filled, withByte, withBytes};
+ghost use Rattle.page.specs.Page.{pageOf, withByte, withBytes};
 use libc::STDOUT_FILENO;
 
 pub const PAGE: usize = 8192;
@@ -17,7 +17,7 @@ pub fn flush(page: &[u8; PAGE], used: usize) {
 }
 
 pub fn put(page: &mut [u8; PAGE], used: usize, b: u8) -> usize
-    ensures { λ r. ⌜ filled (now (page .exit)) r ≡ withByte (filled (now (page .entry)) used) b ⌝ }
+    ensures { λ r. ⌜ pageOf (now (page .exit)) r ≡ withByte (pageOf (now (page .entry)) used) b ⌝ }
 {
     if used < PAGE {
         page[used] = b;
@@ -29,7 +29,7 @@ pub fn put(page: &mut [u8; PAGE], used: usize, b: u8) -> usize
 }
 
 pub fn text(page: &mut [u8; PAGE], mut used: usize, bytes: &[u8]) -> usize
-    ensures { λ r. ⌜ filled (now (page .exit)) r ≡ withBytes (filled (now (page .entry)) used) (now (bytes .entry)) ⌝ }
+    ensures { λ r. ⌜ pageOf (now (page .exit)) r ≡ withBytes (pageOf (now (page .entry)) used) (now (bytes .entry)) ⌝ }
 {
     let mut i = 0;
     while i < bytes.len() {

@@ -23,7 +23,7 @@ use Rattle.pes.specs.Head.{notHead, idOf, givenContents, readContentsPart, cont
 use Rattle.pes.proofs.Laws.{Headed, headed-done, contents-within, contents-known}
 use Rattle.contents.specs.declared.PartRead.{PartRead}
 use Rattle.contents.specs.declared.Refusal.{Refusal}
-use Rattle.contents.specs.Contents.{notContents, readPayload, readContents}
+use Rattle.contents.specs.Contents.{notContents, readParsedPayload, readContents}
 use Rattle.contents.specs.Given.{refusal, givenPart}
 use Rattle.contents.proofs.Laws.{payload-within as contents-payload-within}
 use Rattle.pes_header.specs.declared.PayloadRead.{PayloadRead}
@@ -106,9 +106,9 @@ module _ (xs : List ℕ) where
     pub parsed-fits : p ≤ length xs
     parsed-fits = omega (arith, parsed-there)
 
-    module _ (q : PartRead) (f : givenPart q ≡ readPayload (take (length xs - p) (drop p xs))) where
-      read-off : givenPart q ≡ readPayload (drop 6 xs)
-      read-off = f ∙ (ap readPayload (part-rest p xs) ∙ ap (λ (m : ℕ). readPayload (drop m xs)) (parsed-there .0))
+    module _ (q : PartRead) (f : givenPart q ≡ readParsedPayload (take (length xs - p) (drop p xs))) where
+      read-off : givenPart q ≡ readParsedPayload (drop 6 xs)
+      read-off = f ∙ (ap readParsedPayload (part-rest p xs) ∙ ap (λ (m : ℕ). readParsedPayload (drop m xs)) (parsed-there .0))
 
       parsed-is : later 6 (givenPart q) ≡ headerPayload xs
       unfolding headerPayload
@@ -122,8 +122,8 @@ module _ (xs : List ℕ) where
       -- a payload is never flagged, so that any answer will do
       pub never-flagged : (a : Answer) → q ≡ PartRead.FieldNotPresent → a ≡ headerPayload xs
       never-flagged a h =
-          let z : 9 ≡ readPayload (drop 6 xs) .number = ap (λ (b : Answer). b .number) (ap givenPart (sym h) ∙ read-off) in
-          let l : readPayload (drop 6 xs) .number ≤ 8 = contents-number (drop 6 xs) _ refl .1 in
+          let z : 9 ≡ readParsedPayload (drop 6 xs) .number = ap (λ (b : Answer). b .number) (ap givenPart (sym h) ∙ read-off) in
+          let l : readParsedPayload (drop 6 xs) .number ≤ 8 = contents-number (drop 6 xs) _ refl .1 in
           absurd (omega arith)
 
       module _ (a m : ℕ) (h : q ≡ PartRead.Done a m) where
@@ -133,7 +133,7 @@ module _ (xs : List ℕ) where
 
         pub accepted-fits : p + a + m ≤ length xs
         accepted-fits =
-            let y : answer 0 (a ∷ m ∷ []) ≡ readPayload (drop 6 xs) = ap givenPart (sym h) ∙ read-off in
+            let y : answer 0 (a ∷ m ∷ []) ≡ readParsedPayload (drop 6 xs) = ap givenPart (sym h) ∙ read-off in
             let w : a + m ≤ length (drop 6 xs) = (rw (← y) at (contents-payload-within (drop 6 xs))) refl in
             omega (arith, length-drop 6 xs, parsed-there)
 
@@ -142,8 +142,8 @@ module _ (xs : List ℕ) where
   unfolding headerPayload
   payload-within z = let h = headed-done xs _ z in go (parsedId (idOf xs)) h z
     where
-      go : (t : Bool) → Headed xs → Within (unless (notHead xs) (pick t (later 6 (readPayload (drop 6 xs))) (contentsPart xs))) xs
-      go true h = rw (h .is (later 6 (readPayload (drop 6 xs)))) (later-within 6 (readPayload (drop 6 xs)) xs (h .long) (contents-payload-within (drop 6 xs)))
+      go : (t : Bool) → Headed xs → Within (unless (notHead xs) (pick t (later 6 (readParsedPayload (drop 6 xs))) (contentsPart xs))) xs
+      go true h = rw (h .is (later 6 (readParsedPayload (drop 6 xs)))) (later-within 6 (readParsedPayload (drop 6 xs)) xs (h .long) (contents-payload-within (drop 6 xs)))
       go false h = rw (h .is (contentsPart xs)) (contents-within xs)
 
   -- its bytes, by where it is said to lie

@@ -23,7 +23,7 @@ use Rattle.pes.specs.Head.{givenHead, givenStreamId, givenLength, givenContents
 use Rattle.pes.specs.Head.{notHead, idOf, readHead, readStreamId, readLength, readContentsPart, contentsPart}
 use Rattle.pes.proofs.Laws.{headed-done, contents-within}
 use Rattle.pes.proofs.Theorems.{one-head, one-stream-id, one-length, one-contents}
-use Rattle.contents.specs.Contents.{readPayload, readContents}
+use Rattle.contents.specs.Contents.{readParsedPayload, readContents}
 use Rattle.pes_header.specs.declared.PesHeader.{PesHeader}
 use Rattle.pes_header.specs.declared.PayloadRead.{PayloadRead}
 use Rattle.pes_header.specs.Payload.{givenPayload, later, headerPayload, payloadBytes}
@@ -99,11 +99,11 @@ module _ (xs : List ℕ) where
 
     -- an id that carries parsed contents: what `contents::payload` gives of the bytes after the six, refused by the number of the contents
     pub parsed-payload : parsedId (idOf xs) ≡ true
-        → (headerPayload xs ≡ later 6 (readPayload (drop 6 xs))) × (payloadBytes xs ≡ partOf (readPayload (drop 6 xs)) (drop 6 xs))
+        → (headerPayload xs ≡ later 6 (readParsedPayload (drop 6 xs))) × (payloadBytes xs ≡ partOf (readParsedPayload (drop 6 xs)) (drop 6 xs))
     unfolding headerPayload payloadBytes
     parsed-payload t =
-        let e : headerPayload xs ≡ later 6 (readPayload (drop 6 xs)) = headed-done xs (answer 0 []) h .is _ ∙ rw t in
-        (e, ap (λ (a : Answer). partOf a xs) e ∙ later-part 6 (readPayload (drop 6 xs)) xs)
+        let e : headerPayload xs ≡ later 6 (readParsedPayload (drop 6 xs)) = headed-done xs (answer 0 []) h .is _ ∙ rw t in
+        (e, ap (λ (a : Answer). partOf a xs) e ∙ later-part 6 (readParsedPayload (drop 6 xs)) xs)
 
   -- THE NUMBER is the head's where that is refused, else that of the contents where the id carries such, and 0 after a bare id
   pub payload-number : headerPayload xs .number
@@ -114,7 +114,7 @@ module _ (xs : List ℕ) where
           → headerPayload xs .number ≡ pick t (pick k (readContents (drop 6 xs)) (answer 0 [])) (readHead xs) .number
       go true e true k =
           ap (λ (a : Answer). a .number) (parsed-payload (eqb-true _ _ e) k .0)
-          ∙ (later-number 6 (readPayload (drop 6 xs)) ∙ contents-number (drop 6 xs) _ refl .0)
+          ∙ (later-number 6 (readParsedPayload (drop 6 xs)) ∙ contents-number (drop 6 xs) _ refl .0)
       go true e false k =
           ap (λ (a : Answer). a .number) (bare-payload (eqb-true _ _ e) k .0 ∙ headed-done xs (answer 0 []) (eqb-true _ _ e) .is _)
       go false e b k = ap (λ (a : Answer). a .number) (refused-payload (eqb-false _ _ e) .0)

@@ -8,7 +8,7 @@ use Rattle.bits.specs.Answer.{Answer, answer, pick, unless, partOf}
 use Rattle.bits.specs.Numbers.{done, shortHeader, badStartCode, shortContents, badCheckBits, headerPastBuffer, fieldsPastHeader}
 use Rattle.pes.specs.Stream.{parsedId}
 use Rattle.pes.specs.Head.{idOf, notHead, contentsPart}
-use Rattle.contents.specs.Contents.{readPayload}
+use Rattle.contents.specs.Contents.{readParsedPayload}
 use Rattle.pes_header.specs.declared.PayloadRead.{PayloadRead}
 
 -- place and length, or the number of the refusal
@@ -28,7 +28,7 @@ later k a = pick (eqb (a .number) done) (answer done ((k + getD (a .values) 0 0)
 -- THE PAYLOAD OF A HEADER, as place and length, refused in the order 3 to 8: 3 and 4 for the head; then, after an id that carries parsed
 -- contents, 5 to 8 for these or what follows their header data, and after an id that carries bare payload all bytes after the six
 unfoldable pub headerPayload : List ℕ → Answer
-headerPayload xs = unless (notHead xs) (pick (parsedId (idOf xs)) (later 6 (readPayload (drop 6 xs))) (contentsPart xs))
+headerPayload xs = unless (notHead xs) (pick (parsedId (idOf xs)) (later 6 (readParsedPayload (drop 6 xs))) (contentsPart xs))
 
 -- its bytes; none where head or contents are refused
 unfoldable pub payloadBytes : List ℕ → List ℕ

@@ -15,12 +15,12 @@ use Rattle.machine.specs.Run.{IsPacket}
 use Rattle.gather.specs.declared.Lies.the-variants.{Packet, Store}
 use Rattle.gather.specs.declared.Gathering.{Gathering}
 use Rattle.gather.specs.Belongs.{eventBytes, ownPlace, ownBytes}
-use Rattle.gather.specs.Gather.{gathering, emptied, wrongEvent, wrongGathering, kept, added, next, Outcome, heldBytes, CallStands}
+use Rattle.gather.specs.Gather.{gathering, emptied, wrongEvent, wrongGathering, kept, added, nextGathering, GatherOutcome, heldBytes, CallStands}
 use Rattle.gather.proofs.Laws.{part-tested, stands-gathering, count-inside, read-done, bytes-are, event-part, added-begin, added-open}
 use Rattle.gather.proofs.Laws.{added-closed, added-none, kept-begin, kept-other, next-start, next-begin, next-continue, next-end, next-break, number-done, full, taken}
 use Rattle.gather.proofs.Theorems.{own-part}
 use Rattle.units.specs.Units.{Standing, standing, packetOf, answered, called, gatherAll, answers, readAt, bytesAt, bytesAtAll}
-use Rattle.units.specs.Units.{unitBytes, lastOf, Inside, GatheringStands, Kind, Known, NoBegin, Taken, Open}
+use Rattle.units.specs.Units.{unitBytes, lastEvent, Inside, GatheringStands, Kind, Known, NoBegin, Taken, Open}
 
 -- ---- the calls over events: what a call with each kind does
 
@@ -40,12 +40,12 @@ module _ (ps : List (List ℕ)) (all : All IsPacket ps) (t : Standing) (e : Even
   -- where the store has room, it is taken
   accepted : kept (t .gathering) e + length (added (t .gathering) (packetOf ps e) e) ≤ length (t .store)
       → (answered ps t e .number ≡ 0)
-      × (called ps t e ≡ standing (next (t .gathering) (packetOf ps e) e)
+      × (called ps t e ≡ standing (nextGathering (t .gathering) (packetOf ps e) e)
       (placedAt (t .store) (kept (t .gathering) e) (added (t .gathering) (packetOf ps e) e)))
   accepted room =
       let z = number-done (t .gathering) (packetOf ps e) e (t .store) possible room in
       let q = taken (t .gathering) (packetOf ps e) e (t .store) _ _ z refl refl in
-      (ap (λ (o : Outcome). o .number) (sym (q .0)), rw (← q .0, ← q .1))
+      (ap (λ (o : GatherOutcome). o .number) (sym (q .0)), rw (← q .0, ← q .1))
 
 -- reading out of the store
 read-store : (p s u : List ℕ) (o : Bool) → IsPacket p → length u ≤ length s → take (length u) s ≡ u
@@ -127,7 +127,7 @@ module _ (ps : List (List ℕ)) (all : All IsPacket ps) (t : Standing) (e : Even
 
   -- what adds nothing leaves the store
   nothing-added : Known e → GatheringStands t → (e .kind ≡ 2 → ⊥) → [] ≡ added (t .gathering) (packetOf ps e) e
-      → (answered ps t e .number ≡ 0) × (called ps t e ≡ standing (next (t .gathering) (packetOf ps e) e) (t .store))
+      → (answered ps t e .number ≡ 0) × (called ps t e ≡ standing (nextGathering (t .gathering) (packetOf ps e) e) (t .store))
   nothing-added k ok b j =
       let d : kept (t .gathering) e ≡ t .gathering .count = kept-other (t .gathering) e b in
       let r : t .gathering .count ≤ length (t .store) = count-inside (t .gathering) (length (t .store)) ok in
@@ -175,7 +175,7 @@ module _ (ps : List (List ℕ)) (all : All IsPacket ps) where
       → Open u n t → readAt ps t b ≡ u → length u + length (bytesAtAll ps cs) ≤ n
       → All Taken (answers ps t cs)
       × Open (u ++ bytesAtAll ps cs) n (gatherAll ps t cs)
-      × (readAt ps (gatherAll ps t cs) (lastOf b cs) ≡ u ++ bytesAtAll ps cs)
+      × (readAt ps (gatherAll ps t cs) (lastEvent b cs) ≡ u ++ bytesAtAll ps cs)
   continues t b [] u n k i w r h = (tt, rw (append-nil u) w, r ∙ sym (append-nil u))
   continues t b (c ∷ cs) u n k i w r h =
       let x = bytesAt ps c in
@@ -190,7 +190,7 @@ module _ (ps : List (List ℕ)) (all : All IsPacket ps) where
     -- before its end it is open; its bytes so far stand in the store, and are what is read out with the packet of the last event
     pub gathering-open : All Taken (answers ps t (b ∷ cs))
         × Open (unitBytes ps b cs) (length (t .store)) (gatherAll ps t (b ∷ cs))
-        × (readAt ps (gatherAll ps t (b ∷ cs)) (lastOf b cs) ≡ unitBytes ps b cs)
+        × (readAt ps (gatherAll ps t (b ∷ cs)) (lastEvent b cs) ≡ unitBytes ps b cs)
     unfolding unitBytes
     gathering-open =
         let u = ownBytes (bytesAt ps b) in
@@ -229,8 +229,8 @@ module _ (p : List ℕ) (e : Event) where
       go true f = added-closed emptied p e (eqb-true (e .kind) 3 f) refl
       go false f = added-none emptied p e b (eqb-false (e .kind) 3 f)
 
-  next-fresh : (e .kind ≡ 2 → ⊥) → next emptied p e ≡ emptied
-  unfolding next
+  next-fresh : (e .kind ≡ 2 → ⊥) → nextGathering emptied p e ≡ emptied
+  unfolding nextGathering
   next-fresh b = rw (ne-eqb (e .kind) 2 b, ← added-fresh b) (go (eqb (e .kind) 1) (eqb (e .kind) 3) (eqb (e .kind) 4))
     where
       go : (t₁ t₃ t₄ : Bool) → pick t₁ emptied (pick t₃ (gathering false (0 + 0) Store) (pick t₄ (gathering false 0 Store) emptied)) ≡ emptied
@@ -267,14 +267,14 @@ module _ (ps : List (List ℕ)) (all : All IsPacket ps) where
 -- ---- whatever was refused by 20, a state that lies in its store and packet stays such
 
 next-good : (g : Gathering) (p : List ℕ) (e : Event) (n : ℕ) → Known e → length p ≡ 188 → e .place + e .length ≤ 188 → wrongGathering g n ≡ false
-    → kept g e + length (added g p e) ≤ n → wrongGathering (next g p e) n ≡ false
+    → kept g e + length (added g p e) ≤ n → wrongGathering (nextGathering g p e) n ≡ false
 next-good g p e n k l h ok r = go (eqb (e .kind) 1) refl (eqb (e .kind) 2) refl (eqb (e .kind) 3) refl (eqb (e .kind) 4) refl
   where
     o : g .count ≤ n
     o = count-inside g n ok
 
     go : (t₁ : Bool) → eqb (e .kind) 1 ≡ t₁ → (t₂ : Bool) → eqb (e .kind) 2 ≡ t₂
-        → (t₃ : Bool) → eqb (e .kind) 3 ≡ t₃ → (t₄ : Bool) → eqb (e .kind) 4 ≡ t₄ → wrongGathering (next g p e) n ≡ false
+        → (t₃ : Bool) → eqb (e .kind) 3 ≡ t₃ → (t₄ : Bool) → eqb (e .kind) 4 ≡ t₄ → wrongGathering (nextGathering g p e) n ≡ false
     go true f₁ t₂ f₂ t₃ f₃ t₄ f₄ = rw (next-start g p e (eqb-true (e .kind) 1 f₁)) ok
     go false f₁ true f₂ t₃ f₃ t₄ f₄ =
         let q : e .kind ≡ 2 = eqb-true (e .kind) 2 f₂ in

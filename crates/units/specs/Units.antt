@@ -10,7 +10,7 @@ use Rattle.log.specs.declared.Event.{Event}
 use Rattle.log.specs.Entry.{beginPacket, endPacket}
 use Rattle.gather.specs.declared.Gathering.{Gathering}
 use Rattle.gather.specs.Belongs.{eventBytes, ownBytes}
-use Rattle.gather.specs.Gather.{wrongGathering, Outcome, gatherOf, storeOf, heldBytes}
+use Rattle.gather.specs.Gather.{wrongGathering, GatherOutcome, gatherOf, storeOf, heldBytes}
 
 -- a state, and the bytes of the store that goes with it
 pub record Standing : Type 0 where
@@ -25,7 +25,7 @@ abbrev pub packetOf : List (List ℕ) → Event → List ℕ
 packetOf ps e = getD ps (e .index) []
 
 -- a call with an event and its packet: what it answers, and what stands after it
-abbrev pub answered : List (List ℕ) → Standing → Event → Outcome
+abbrev pub answered : List (List ℕ) → Standing → Event → GatherOutcome
 answered ps t e = gatherOf (t .gathering) (packetOf ps e) e (t .store)
 
 abbrev pub called : List (List ℕ) → Standing → Event → Standing
@@ -56,9 +56,9 @@ unfoldable pub unitBytes : List (List ℕ) → Event → List Event → List ℕ
 unitBytes ps b cs = ownBytes (bytesAt ps b) ++ bytesAtAll ps cs
 
 -- the last of a begin and its continues
-abbrev pub lastOf : Event → List Event → Event
-lastOf b [] = b
-lastOf b (c ∷ cs) = lastOf c cs
+abbrev pub lastEvent : Event → List Event → Event
+lastEvent b [] = b
+lastEvent b (c ∷ cs) = lastEvent c cs
 
 -- ---- what the theorems ask
 

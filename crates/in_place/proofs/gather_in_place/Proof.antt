@@ -50,7 +50,7 @@ use denote.Enum.Laws as EL
 use Rattle.log.specs.declared.Event.{Event}
 use Rattle.log.proofs.Event as Ev
 use Rattle.log.proofs.Event.Laws as Ev′
-use Rattle.gather.specs.Gather.{Outcome, given, gatherOf, storeOf}
+use Rattle.gather.specs.Gather.{GatherOutcome, givenGathered, gatherOf, storeOf}
 use Rattle.gather.specs.declared.Gathering.{Gathering}
 use Rattle.gather.specs.declared.Gathered.{Gathered}
 use Rattle.gather.specs.declared.Verdict.{Verdict}
@@ -128,7 +128,7 @@ module _ {M : Type 1} (𝓤 : URA M) (H : Heap 𝓤) (A : Atoms 𝓤) (W : Given
       (vals h, (v ∷ [], (mach ev ∷ [], (s ∷ [], tt))))) ∷ []) ∵ join ! $ frame ! $ done !
 
   exits : (r : Gathered) (zs : List ℕ) → Is E.the-row (r .verdict) (verd (r .verdict) ∷ [])
-      → (given r ≡ gatherOf h (p .now) ev ys) × (zs ≡ storeOf h (p .now) ev ys) → length zs ≡ length ys
+      → (givenGathered r ≡ gatherOf h (p .now) ev ys) × (zs ≡ storeOf h (p .now) ev ys) → length zs ≡ length ys
       → ent 𝓤 (⋆ 𝓤 H A (‵ (fobs γ (T.the-row .coded .code (r .gathering))) ∷ ‵ (fbor κ (Body (mem T.the-row) b o γ)) ∷ ‵ (flft κ q) ∷
       (‵ (flft κ₁ q₁) ⊛ ‵ (flft κ₂ q₂) ⊛ ‵ ftrue) ∷ ‵ (finally u8 γ′ zs) ∷ ‵ P ∷ [])) (Post (verd (r .verdict)))
   exits r zs fits e l =
@@ -137,7 +137,7 @@ module _ {M : Type 1} (𝓤 : URA M) (H : Heap 𝓤) (A : Atoms 𝓤) (W : Given
       suffices ! _ (ends-at 𝓤 H A gather-in-place.ended stayed (gather-in-place.clauses 𝓤 H A at-mem run) W
       (((κ, (κ₁, (κ₂, tt))), (q, (q₁, (q₂, tt))), tt, a, at), tt) (verd (r .verdict)) (r .verdict) (r .gathering, (tt, (tt, (zs, tt))))
       (tt, (tt, (tt, (l, tt))))) $
-      says ! (ap (λ (t : Outcome). t .number) (e .0), ap (λ (t : Outcome). t .gathering) (e .0), e .1) $
+      says ! (ap (λ (t : GatherOutcome). t .number) (e .0), ap (λ (t : GatherOutcome). t .gathering) (e .0), e .1) $
       move ! (2 ∷ 3 ∷ []) $ join ! $ frame ! $ feqI ! (List Val) (vptr b o ∷ []) (vptr b o ∷ []) refl $ fjoin3 ! $ nothing ! $
       move ! (2 ∷ 0 ∷ []) $ fjoin ! $
       owned ! Ev.the-row (Is Ev.the-row) (LL.makes Ev.the-type Ev′.the-plain 𝓤 H A) ev _ is-ev $ fjoin ! $ move ! (2 ∷ 0 ∷ []) $ fjoin ! $
@@ -186,9 +186,9 @@ module _ {M : Type 1} (𝓤 : URA M) (H : Heap 𝓤) (A : Atoms 𝓤) (W : Given
         split ! $ move ! (1 ∷ []) $
         use1 W (some (λ (zs : Unit {0} × (Unit {0} × (Unit {0} × (List ℕ × Unit {0})))). ‵
         (lasts by-value.ended (κ₁, (κ₂, tt)) (h, (p, (ev, (x, tt)))) zs) ⊛ raw
-        (fact 𝓤 ((given r ≡ gatherOf h (p .now) ev ys) × (zs .1 .1 .1 .0 ≡ storeOf h (p .now) ev ys))))) (id⊢ 𝓤 _) $ pick ! (λ zs.
+        (fact 𝓤 ((givenGathered r ≡ gatherOf h (p .now) ev ys) × (zs .1 .1 .1 .0 ≡ storeOf h (p .now) ev ys))))) (id⊢ 𝓤 _) $ pick ! (λ zs.
         split ! $ move ! (1 ∷ []) $
-        heard ! ((given r ≡ gatherOf h (p .now) ev ys) × (zs .1 .1 .1 .0 ≡ storeOf h (p .now) ev ys)) (λ e. fsplit ! $ move ! (1 ∷ []) $
+        heard ! ((givenGathered r ≡ gatherOf h (p .now) ev ys) × (zs .1 .1 .1 .0 ≡ storeOf h (p .now) ev ys)) (λ e. fsplit ! $ move ! (1 ∷ []) $
         fsplit ! $ move ! (1 ∷ []) $ fsplit ! $ move ! (1 ∷ []) $ fsplit ! $ fsplit ! $ move ! (1 ∷ []) $ feqL ! (λ l.
         -- [the last list; …; the tokens and the result; the packet's; the cell; the open borrow; obs; auth; _8; …]
         move ! (5 ∷ []) $ split ! $ move ! (1 ∷ []) $ peeks ! S.the-row (Is S.the-row) (shows 𝓤 H A S.the-row) r (w ∷ []) (λ is.
