@@ -34,12 +34,10 @@ LONGEST = 1200  # seconds of the driver after which it counts as hung
 TRIPLE = "x86_64-unknown-linux-gnu"
 WORDS = {"u8": "i8", "u16": "i16", "u32": "i32", "u64": "i64", "usize": "i64"}
 
-# The module of the driver that most likely sees a wrong answer of a crate, or of a file of the exported functions. It looks first.
+# The module of the driver that most likely sees a wrong answer of a crate, or of its exported functions in of_CRATE.rt. It looks first.
 LIKELY = {
-    "timestamp": "timestamp", "of_timestamp": "timestamp", "control": "control", "of_control": "control", "packet": "packet", "of_packet": "packet",
-    "adaptation": "adaptation", "of_adaptation": "adaptation", "pes": "head", "of_pes": "head", "contents": "contents", "of_contents": "contents",
-    "log": "machine", "machine": "machine", "of_machine": "machine", "writer": "writer", "of_writer": "writer", "pes_header": "gather",
-    "gather": "gather", "of_gather": "gather",
+    "timestamp": "timestamp", "control": "control", "packet": "packet", "adaptation": "adaptation", "pes": "head", "contents": "contents",
+    "log": "machine", "machine": "machine", "writer": "writer", "pes_header": "gather", "gather": "gather",
 }  # fmt: skip
 
 
@@ -237,7 +235,7 @@ def first_difference(program, words):
 
 def look_first(wrong):
     """The words by which the driver looks first where the wrong answer most likely shows."""
-    for word in (Path(wrong.changes[0].file).stem, wrong.crate):
+    for word in (Path(wrong.changes[0].file).stem.removeprefix("of_"), wrong.crate):
         if word in LIKELY:
             return [*QUICK, "--only", LIKELY[word]]
     return QUICK
