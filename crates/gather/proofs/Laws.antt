@@ -14,7 +14,7 @@ use borrow.Author.Tests.{lt-ltb, le-ltb, ltb-true, ltb-false, le-leb, lt-leb, le
 use Rattle.bits.specs.Answer.{Answer, answer, pick, Check, firstOf, partAt, placedAt}
 use Rattle.bits.proofs.Bools.{both, not-both, tested, neither-holds}
 use Rattle.bits.proofs.Checks.{ne-other, eq-other, firstOf-first, firstOf-past}
-use Rattle.bits.proofs.Parts.{part-in, part-cut, part-length, part-of-part, part-refused, part-done, placed-none, placed-out, front}
+use Rattle.bits.proofs.Parts.{part-in, part-cut, part-length, part-of-part, part-refused, part-done, placed-none, placed-out}
 use Rattle.packet.specs.Packet.{notPacket}
 use Rattle.packet.proofs.Laws.{packet-off}
 use Rattle.pes_header.specs.declared.PayloadRead.{PayloadRead}
@@ -324,13 +324,6 @@ module _ (k : ℕ) (xs s : List ℕ) where
   pub none-placed : k ≤ length s → length s - k < length xs → s ≡ placedAt s k xs
   none-placed i h = placed-out s k xs (omega arith)
 
-  -- by way of an array
-  pub front-length : (d x : List ℕ) → length xs ≤ length d → x ≡ placedAt d 0 xs → length xs ≡ length (take (length xs) x)
-  front-length d x h e = sym (ap length (front d x xs h e))
-
-  pub front-placed : (d x s′ : List ℕ) → length xs ≤ length d → x ≡ placedAt d 0 xs → s′ ≡ placedAt s k (take (length xs) x) → s′ ≡ placedAt s k xs
-  front-placed d x s′ h e f = f ∙ ap (placedAt s k) (front d x xs h e)
-
 -- ---- a call
 
 -- an outcome and a store's bytes are those of a call
@@ -442,4 +435,4 @@ pub ruleset apply-laws = (named-end, named-short, count-inside, own-end, own-sho
 
 pub ruleset call-laws = (none-outcome, none-store, open-outcome, open-store, begin-outcome, begin-store, needs)
 
-pub ruleset gather-laws = (kind-none, kind-past, part-tested, past-store, lies-in-store, place-past, packet-tested, read-length, read-sync, read-out, read-done, bytes-refused, bytes-packet, bytes-store, rest-start, rest-break, rest-closed, extends-not, extends-open, full-is, appended-full, appended-done, none-placed, front-length, front-placed, tested, needs)
+pub ruleset gather-laws = (kind-none, kind-past, part-tested, past-store, lies-in-store, place-past, packet-tested, read-length, read-sync, read-out, read-done, bytes-refused, bytes-packet, bytes-store, rest-start, rest-break, rest-closed, extends-not, extends-open, full-is, appended-full, appended-done, none-placed, tested, needs)

@@ -10,7 +10,6 @@ ghost use Rattle.log.specs.Entry.{continuePacket};
 ghost use Rattle.gather.specs.Belongs.{ownPlace, ownBytes};
 ghost use Rattle.gather.specs.Gather.{gathering, emptied, wrongEvent, wrongGathering, CallStands, rested, appended};
 ghost use Rattle.gather.specs.Gather.{gatherOutcome, givenGathered, gatherOf, storeOf, readOf, givenHeld, heldBytes};
-use bits::copy_at;
 use bits::part;
 use log::BEGIN_PACKET;
 use log::CONTINUE_PACKET;
@@ -183,7 +182,8 @@ fn accepted(gathering: Gathering) -> Gathered
 }
 
 // Bytes of a packet into the store behind those that stay, and the open unit that then has them; 20 where there is no room for them. For
-// the compiler two slices of a caller may be one memory, which it would copy in small pieces: by way of an array of its own it is one move.
+// the compiler two slices of a caller may be one memory, which it would copy in small pieces: by way of an array of its own it is one move, which
+// two calls of copy_at are not.
 fn appends(from: &[u8], store: &mut [u8], kept: usize, lies: Lies) -> Gathered
     requires { ⌜ (length (now from) ≤ 188) × (kept ≤ length (now store)) ⌝ }
     ensures { λ r. ⌜ (givenGathered r ≡ appended kept lies (now (from .entry)) (now (store .entry)))
@@ -193,8 +193,16 @@ fn appends(from: &[u8], store: &mut [u8], kept: usize, lies: Lies) -> Gathered
         return full();
     }
     let mut image = [0u8; SIZE];
-    copy_at(from, &mut image, 0);
-    copy_at(&image[..from.len()], store, kept);
+    let mut i = 0;
+    while i < from.len() {
+        image[i] = from[i];
+        i += 1;
+    }
+    let mut j = 0;
+    while j < from.len() {
+        store[kept + j] = image[j];
+        j += 1;
+    }
     let count = kept + from.len();
     accepted(Gathering {
         opened: true,
