@@ -1,4 +1,4 @@
--- Truth values: tests joined by `pick`, as definitions write 'and', 'and not' and 'not', and tests given as numbers.
+-- Truth values: tests joined by `pick`, as definitions write 'and', and by `||`, and tests given as numbers.
 -- Assumes nothing.
 use mathlib.Core.Path.{_≡_, refl, sym, _∙_}
 use mathlib.Core.Bool.{Bool, true, false, _||_}
@@ -17,16 +17,6 @@ both false b e = false-true e
 pub not-both : (a b : Bool) → pick a b false ≡ false → a ≡ true → b ≡ false
 not-both true b e h = e
 not-both false b e h = false-true h
-
--- b and not a
-pub and-not : (a b : Bool) → pick a false b ≡ true → (a ≡ false) × (b ≡ true)
-and-not true b e = false-true e
-and-not false b e = (refl, e)
-
--- not a
-pub not-not : (a : Bool) → pick a false true ≡ false → a ≡ true
-not-not true e = refl
-not-not false e = false-true (sym e)
 
 pub pick-same : {A : Type 0} (t : Bool) (a : A) → pick t a a ≡ a
 pick-same true a = refl
