@@ -87,8 +87,8 @@
 //!
 //! # Without std
 //!
-//! With `default-features = false` the crate is `no_std` and needs `alloc`; [`Error`] is then no `std::error::Error`. The archives call
-//! `memcpy`, `memmove` and `memset` alone, which the C library has, and `compiler_builtins` for a target without one.
+//! With `default-features = false` the crate is `no_std` and needs `alloc`; [`Error`] is then no `std::error::Error`. The archives
+//! call memory functions of C such as `memcpy`, which the C library has, and `compiler_builtins` for a target without one.
 //!
 //! # Linking
 //!
