@@ -1,0 +1,135 @@
+//! The recording in words, and a row for each PID.
+
+use crate::input::{counted, Failure, Tally};
+use crate::options::Options;
+use crate::table::{standard_output, Cell, Column, Form, Table};
+use crate::times::timestamps;
+use clomaverift::{ClockRef, Found, Mark, Pid, Timestamp};
+use std::collections::BTreeMap;
+use std::io::{self, Write};
+
+const COLUMNS: &[Column] = &[
+    ("pid", 6),
+    ("packets", 10),
+    ("units", 7),
+    ("breaks", 7),
+    ("scrambled", 9),
+    ("damaged", 8),
+    ("first_pts", 13),
+    ("last_pts", 13),
+    ("first_pcr", 15),
+];
+
+/// What was found of a PID.
+#[derive(Default)]
+struct Row {
+    packets: u64,
+    units: u64,
+    breaks: u64,
+    scrambled: u64,
+    damaged: u64,
+    given_up: u64,
+    first_pts: Option<Timestamp>,
+    last_pts: Option<Timestamp>,
+    first_pcr: Option<ClockRef>,
+}
+
+impl Row {
+    fn cells(&self, pid: Pid, seconds: bool) -> [Cell; 9] {
+        [
+            Cell::Pid(pid),
+            Cell::Number(self.packets),
+            Cell::Number(self.units),
+            Cell::Number(self.breaks),
+            Cell::Number(self.scrambled),
+            Cell::Number(self.damaged),
+            Cell::timestamp(self.first_pts, seconds),
+            Cell::timestamp(self.last_pts, seconds),
+            Cell::clock(self.first_pcr, seconds),
+        ]
+    }
+}
+
+type Rows = BTreeMap<Pid, Row>;
+
+fn found(rows: &mut Rows, found: Found<'_>) {
+    match found {
+        Found::Unit(unit) => rows.entry(unit.pid).or_default().units += 1,
+        Found::ContinuityError { pid, .. } => rows.entry(pid).or_default().breaks += 1,
+        Found::StoreFull { pid, .. } => rows.entry(pid).or_default().given_up += 1,
+        Found::Dropped { pid, mark: Mark::Scrambled, .. } => rows.entry(pid).or_default().scrambled += 1,
+        Found::Dropped { pid, .. } => rows.entry(pid).or_default().damaged += 1,
+        Found::Clock { pid, pcr, .. } => {
+            rows.entry(pid).or_default().first_pcr.get_or_insert(pcr);
+        }
+        Found::Begin { pid, header, .. } => {
+            let row = rows.entry(pid).or_default();
+            let (pts, _) = timestamps(&header);
+            row.first_pts = row.first_pts.or(pts);
+            row.last_pts = pts.or(row.last_pts);
+        }
+        _ => (),
+    }
+}
+
+fn words(out: &mut impl Write, tally: &Tally, rows: &Rows) -> io::Result<()> {
+    let sum = |of: fn(&Row) -> u64| rows.values().map(of).sum::<u64>();
+    let packets = counted(sum(|row| row.packets), "packet", "packets");
+    writeln!(
+        out,
+        "{packets} of {}, {} in all.",
+        counted(rows.len() as u64, "PID", "PIDs"),
+        counted(tally.bytes, "byte", "bytes")
+    )?;
+    let units = counted(sum(|row| row.units), "unit was", "units were");
+    writeln!(
+        out,
+        "{units} read whole; {} in the continuity counters.",
+        counted(sum(|row| row.breaks), "break", "breaks")
+    )?;
+    match (sum(|row| row.scrambled), sum(|row| row.damaged)) {
+        (0, 0) => writeln!(out, "No packet is marked as scrambled or damaged."),
+        (scrambled, damaged) => {
+            let scrambled = counted(scrambled, "packet is", "packets are");
+            writeln!(out, "{scrambled} marked as scrambled and {damaged} as damaged: dropped.")
+        }
+    }?;
+    match sum(|row| row.given_up) {
+        0 => Ok(()),
+        given_up => writeln!(out, "{} too long to be kept.", counted(given_up, "unit is", "units are")),
+    }?;
+    writeln!(out)
+}
+
+pub fn run(options: Options) -> Result<(), Failure> {
+    let (chosen, form, seconds) = (options.pid, options.form, options.seconds);
+    let mut demux = options.demux();
+    let mut rows = Rows::new();
+    let tally = options.input.each(|_, bytes, packet| {
+        let pid = packet.map(|packet| packet.pid()).filter(|pid| chosen.map_or(true, |chosen| chosen == *pid));
+        if let Some(pid) = pid {
+            rows.entry(pid).or_default().packets += 1;
+        }
+        demux.push(bytes, |thing| found(&mut rows, thing));
+        Ok(())
+    })?;
+    demux.finish(|thing| found(&mut rows, thing));
+
+    let mut out = standard_output();
+    match form {
+        Form::Text => words(&mut out, &tally, &rows)?,
+        Form::Csv => (),
+        Form::Json => {
+            let (packets, refused) = (tally.packets - tally.refused, tally.refused);
+            write!(out, "{{\"packets\":{packets},\"refused\":{refused},\"bytes\":{},\"pids\":", tally.bytes)?;
+        }
+    }
+    let mut table = Table::begin(out, form, COLUMNS)?;
+    rows.iter().try_for_each(|(pid, row)| table.row(&row.cells(*pid, seconds)))?;
+    let mut out = table.end()?;
+    if form == Form::Json {
+        writeln!(out, "}}")?;
+    }
+    out.flush()?;
+    tally.check()
+}
