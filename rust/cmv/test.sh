@@ -3,6 +3,7 @@
 # a pipe that is closed and onto a full device, and holds its output, sentences and exit status against what is stored in tests/.
 # rust/cmv/test.sh --store stores what the program prints now.
 set -euo pipefail
+export LC_ALL=C
 # shellcheck source-path=SCRIPTDIR source=../../tools/common.sh
 . "$(dirname "$0")/../../tools/common.sh"
 
@@ -88,10 +89,21 @@ check_multiplex() {
     exits 0 payload "$scratch/multiplex" --pid 0x101
     grep -qx 'cmv: 3 packets are marked as scrambled or damaged: dropped' "$scratch/said" || fail "payload does not tell of dropped packets"
     refuses "$scratch/multiplex: no packet of PID 0x0102" times "$scratch/multiplex" --pid 258
-    # The writer takes no PID above 8190, and no bare payload
+}
+
+# Units that cannot be read (two headers without check bits) or written (a stream id without header fields).
+check_lost_units() {
+    local name
+    sed 's/\x00\x00\x01\xe0\x00\x00\x80\x80/\x00\x00\x01\xe0\x00\x00\x40\x80/' "$sample" >"$scratch/unreadable"
+    for name in payload rewrite; do
+        exits 1 "$name" "$scratch/unreadable" "${pid[@]}"
+        grep -q '^cmv: 2 units are not written, the first one at packet 16: ' "$scratch/said" || fail "on bad headers: $(cat "$scratch/said")"
+        [ -s "$scratch/out" ] || fail "no unit is written beside those that cannot be read"
+    done
     sed 's/\x00\x00\x01\xe0/\x00\x00\x01\xbf/' "$sample" >"$scratch/bare"
+    exits 0 payload "$scratch/bare" "${pid[@]}"
     exits 1 rewrite "$scratch/bare" "${pid[@]}"
-    grep -q '^cmv: [0-9]* units\? .* not written, the first one at packet' "$scratch/said" || fail "rewrite does not tell of units left out"
+    grep -q '^cmv: 4 units are not written, the first one at packet 0: ' "$scratch/said" || fail "on bare payload: $(cat "$scratch/said")"
 }
 
 check_bad_input() {
@@ -158,6 +170,7 @@ store=no
 cmv --version >/dev/null
 check_sample
 check_multiplex
+check_lost_units
 check_bad_input
 check_output_errors
 check_usage

@@ -2,6 +2,7 @@
 
 mod events;
 mod input;
+mod losses;
 mod options;
 mod payload;
 mod rewrite;

@@ -1,8 +1,8 @@
 //! The elementary stream of a PID.
 
 use crate::input::Failure;
+use crate::losses::Losses;
 use crate::options::Options;
-use crate::rewrite::Losses;
 use crate::table::standard_output;
 use clomaverift::Found;
 use std::io::Write;
@@ -12,9 +12,10 @@ pub fn run(options: Options) -> Result<(), Failure> {
     let mut losses = Losses::default();
     let mut payload = Vec::new();
     let mut out = standard_output();
-    let mut keep = |found: Found<'_>, payload: &mut Vec<u8>| match found {
-        Found::Unit(unit) => payload.extend(unit.payload),
-        other => losses.found(&other),
+    let mut keep = |found: Found<'_>, payload: &mut Vec<u8>| {
+        if let Some(unit) = losses.unit_of(found) {
+            payload.extend(unit.payload);
+        }
     };
     let tally = options.input.each(|_, bytes, _| {
         demux.push(bytes, |found| keep(found, &mut payload));

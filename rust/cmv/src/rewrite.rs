@@ -1,57 +1,12 @@
 //! The units of a PID, written anew.
 
-use crate::input::{counted, say, Failure};
+use crate::input::Failure;
+use crate::losses::Losses;
 use crate::options::Options;
 use crate::table::standard_output;
 use clomaverift::{Copyright, DataAlignment, OriginalOrCopy};
 use clomaverift::{Error, Found, FoundUnit, Packet, PesHeader, PesLength, PesParsedContents, Times, Unit};
 use std::io::Write;
-
-/// What a sub-command that writes units leaves out.
-#[derive(Default)]
-pub struct Losses {
-    breaks: u64,
-    dropped: u64,
-    /// Units that could not be kept or written, and the first of them.
-    units: u64,
-    first: Option<(u64, Error)>,
-}
-
-impl Losses {
-    pub fn found(&mut self, found: &Found<'_>) {
-        match found {
-            Found::ContinuityError { .. } => self.breaks += 1,
-            Found::Dropped { .. } => self.dropped += 1,
-            Found::StoreFull { index, .. } => self.unit(*index, Error::StoreFull),
-            _ => (),
-        }
-    }
-
-    fn unit(&mut self, index: u64, error: Error) {
-        self.units += 1;
-        self.first.get_or_insert((index, error));
-    }
-
-    /// Tells what the recording has and the output has not. Fails if a unit could not be kept or written.
-    pub fn say(&self) -> Result<(), Failure> {
-        if self.breaks > 0 {
-            say(&format!("{}: a unit that a break cuts off is left out", counted(self.breaks, "break", "breaks")));
-        }
-        if self.dropped > 0 {
-            say(&format!(
-                "{} marked as scrambled or damaged: dropped",
-                counted(self.dropped, "packet is", "packets are")
-            ));
-        }
-        let (index, error) = match self.first {
-            Some(first) => first,
-            None => return Ok(()),
-        };
-        let units = counted(self.units, "unit is", "units are");
-        say(&format!("{units} not written, the first one at packet {index}: {error}"));
-        Err(Failure::Told)
-    }
-}
 
 /// The units so far.
 #[derive(Default)]
@@ -65,10 +20,11 @@ struct Writer {
 
 impl Writer {
     fn found(&mut self, found: Found<'_>) {
-        match found {
-            Found::Begin { pid, header, .. } => self.opened = Some(unit_of(pid.into(), &header)),
-            Found::Unit(unit) => self.unit(&unit),
-            other => self.losses.found(&other),
+        if let Found::Begin { pid, header, .. } = found {
+            self.opened = Some(unit_of(pid.into(), &header));
+        }
+        if let Some(unit) = self.losses.unit_of(found) {
+            self.unit(&unit);
         }
     }
 
@@ -80,7 +36,7 @@ impl Writer {
                 self.counter = (self.counter + (packets.len() / Packet::SIZE % 16) as u8) % 16;
                 self.out.extend(packets);
             }
-            Err(error) => self.losses.unit(found.index, error),
+            Err(error) => self.losses.lose(found.index, error),
         }
     }
 }

@@ -94,6 +94,10 @@ fn words(out: &mut impl Write, tally: &Tally, rows: &Rows) -> io::Result<()> {
             writeln!(out, "{scrambled} marked as scrambled and {damaged} as damaged: dropped.")
         }
     }?;
+    match tally.refused {
+        0 => Ok(()),
+        refused => writeln!(out, "{} refused.", counted(refused, "more packet was", "more packets were")),
+    }?;
     match sum(|row| row.given_up) {
         0 => Ok(()),
         given_up => writeln!(out, "{} too long to be kept.", counted(given_up, "unit is", "units are")),
