@@ -6,7 +6,13 @@ use crate::table::{standard_output, Cell, Column, Form, Table};
 use clomaverift::{EventKind, Machine, Packet, Pid};
 use std::io::Write;
 
-const COLUMNS: &[Column] = &[("packet", 10), ("pid", 6), ("event", 8), ("offset", 6), ("length", 6)];
+const COLUMNS: &[Column] = &[
+    Column::new("packet", 10),
+    Column::new("pid", 6),
+    Column::new("event", 8),
+    Column::new("offset", 6),
+    Column::new("length", 6),
+];
 
 /// The log of one packet, which has at most two events.
 const LOG: usize = 16;
@@ -32,7 +38,7 @@ fn taken(packet: &Packet<'_>, chosen: Option<Pid>) -> bool {
 
 pub fn run(options: Options) -> Result<(), Failure> {
     let mut machines = vec![Machine::new(); Pid::PID_COUNT];
-    let mut table = Table::begin(standard_output(), options.form, COLUMNS)?;
+    let mut table = Table::begin(standard_output(), options.form, COLUMNS, false)?;
     let pid = options.pid;
     let tally = options.input.each(|index, bytes, packet| {
         let packet = match packet {

@@ -15,7 +15,7 @@ const EVENTS: &str = "\
 Events: start (first packet with the start flag), begin (of a unit), continue, end (of the unit before), error (the
 continuity counter breaks). Offset and length are those of the payload in its packet.";
 
-const TIMES: &str = "PTS and DTS are printed in ticks of 90 kHz, PCR in ticks of 27 MHz.";
+const TIMES: &str = "PTS and DTS are printed in ticks of 90 kHz, PCR in ticks of 27 MHz. The picture shows all PIDs alike: --pid chooses one.";
 
 const SUMMARY: &str = "\
 Units are those that were read whole; the last one of a PID ends with the recording. Breaks are packets whose continuity

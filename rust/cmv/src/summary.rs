@@ -9,15 +9,15 @@ use std::collections::BTreeMap;
 use std::io::{self, Write};
 
 const COLUMNS: &[Column] = &[
-    ("pid", 6),
-    ("packets", 10),
-    ("units", 7),
-    ("breaks", 7),
-    ("scrambled", 9),
-    ("damaged", 8),
-    ("first_pts", 13),
-    ("last_pts", 13),
-    ("first_pcr", 15),
+    Column::new("pid", 6),
+    Column::new("packets", 10),
+    Column::new("units", 7),
+    Column::new("breaks", 7),
+    Column::new("scrambled", 9),
+    Column::new("damaged", 8),
+    Column::of_times("first_pts", 13),
+    Column::of_times("last_pts", 13),
+    Column::of_times("first_pcr", 15),
 ];
 
 /// What was found of a PID.
@@ -128,7 +128,7 @@ pub fn run(options: Options) -> Result<(), Failure> {
             write!(out, "{{\"packets\":{packets},\"refused\":{refused},\"bytes\":{},\"pids\":", tally.bytes)?;
         }
     }
-    let mut table = Table::begin(out, form, COLUMNS)?;
+    let mut table = Table::begin(out, form, COLUMNS, seconds)?;
     rows.iter().try_for_each(|(pid, row)| table.row(&row.cells(*pid, seconds)))?;
     let mut out = table.end()?;
     if form == Form::Json {

@@ -67,8 +67,28 @@ impl Cell {
     }
 }
 
-/// A column's name, and its width as text.
-pub type Column = (&'static str, usize);
+/// A column: its name, its width as text, and whether it has times.
+#[derive(Clone, Copy)]
+pub struct Column {
+    name: &'static str,
+    width: usize,
+    times: bool,
+}
+
+impl Column {
+    pub const fn new(name: &'static str, width: usize) -> Column {
+        Column { name, width, times: false }
+    }
+
+    pub const fn of_times(name: &'static str, width: usize) -> Column {
+        Column { name, width, times: true }
+    }
+
+    /// The name for other programs: it says if its times are in seconds.
+    fn key(&self, seconds: bool) -> String {
+        format!("{}{}", self.name, if self.times && seconds { "_seconds" } else { "" })
+    }
+}
 
 pub fn standard_output() -> BufWriter<Stdout> {
     BufWriter::with_capacity(1 << 16, io::stdout())
@@ -79,20 +99,19 @@ pub struct Table<W: Write> {
     out: W,
     form: Form,
     columns: &'static [Column],
+    keys: Vec<String>,
     rows: u64,
 }
 
 impl<W: Write> Table<W> {
-    pub fn begin(mut out: W, form: Form, columns: &'static [Column]) -> io::Result<Table<W>> {
+    pub fn begin(mut out: W, form: Form, columns: &'static [Column], seconds: bool) -> io::Result<Table<W>> {
+        let keys: Vec<String> = columns.iter().map(|column| column.key(seconds)).collect();
         match form {
-            Form::Text => padded(&mut out, columns, columns.iter().map(|(name, _)| name.replace('_', " ")))?,
-            Form::Csv => {
-                let names: Vec<&str> = columns.iter().map(|(name, _)| *name).collect();
-                writeln!(out, "{}", names.join(","))?;
-            }
+            Form::Text => padded(&mut out, columns, columns.iter().map(|column| column.name.replace('_', " ")))?,
+            Form::Csv => writeln!(out, "{}", keys.join(","))?,
             Form::Json => write!(out, "[")?,
         }
-        Ok(Table { out, form, columns, rows: 0 })
+        Ok(Table { out, form, columns, keys, rows: 0 })
     }
 
     pub fn row(&mut self, cells: &[Cell]) -> io::Result<()> {
@@ -104,8 +123,7 @@ impl<W: Write> Table<W> {
             }
             Form::Json => {
                 let before = if self.rows == 0 { "\n" } else { ",\n" };
-                let pairs =
-                    self.columns.iter().zip(cells).map(|((name, _), cell)| format!("\"{name}\":{}", cell.json()));
+                let pairs = self.keys.iter().zip(cells).map(|(key, cell)| format!("\"{key}\":{}", cell.json()));
                 write!(self.out, "{before}{{{}}}", pairs.collect::<Vec<_>>().join(","))?;
             }
         }
@@ -122,8 +140,9 @@ impl<W: Write> Table<W> {
     }
 }
 
-/// A line of text in columns, numbers to the right.
+/// A line of text in columns, to the right.
 fn padded(out: &mut impl Write, columns: &[Column], texts: impl Iterator<Item = String>) -> io::Result<()> {
-    let words: Vec<String> = columns.iter().zip(texts).map(|((_, width), text)| format!("{text:>width$}")).collect();
+    let widths = columns.iter().map(|column| column.width);
+    let words: Vec<String> = widths.zip(texts).map(|(width, text)| format!("{text:>width$}")).collect();
     writeln!(out, "{}", words.join("  "))
 }

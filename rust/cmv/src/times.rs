@@ -7,8 +7,13 @@ use crate::table::{standard_output, Cell, Column, Form, Table};
 use clomaverift::{ClockRef, Found, PesHeader, Pid, PtsDts, Timestamp};
 use std::io::Write;
 
-const TICKS: &[Column] = &[("packet", 10), ("pid", 6), ("pcr", 13), ("pts", 12), ("dts", 12)];
-const SECONDS: &[Column] = &[("packet", 10), ("pid", 6), ("pcr_seconds", 15), ("pts_seconds", 13), ("dts_seconds", 13)];
+const COLUMNS: &[Column] = &[
+    Column::new("packet", 10),
+    Column::new("pid", 6),
+    Column::of_times("pcr", 15),
+    Column::of_times("pts", 13),
+    Column::of_times("dts", 13),
+];
 
 /// The timestamps of a header, if there are any and they are not refused.
 pub fn timestamps(header: &PesHeader<'_>) -> (Option<Timestamp>, Option<Timestamp>) {
@@ -45,7 +50,7 @@ pub fn run(options: Options) -> Result<(), Failure> {
         return draw(options);
     }
     let (form, seconds) = (options.form, options.seconds);
-    let mut table = Table::begin(standard_output(), form, if seconds { SECONDS } else { TICKS })?;
+    let mut table = Table::begin(standard_output(), form, COLUMNS, seconds)?;
     let mut demux = options.demux();
     let tally = options.input.each(|index, bytes, _| {
         let mut times = Times::default();
