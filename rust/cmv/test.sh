@@ -88,6 +88,7 @@ check_multiplex() {
         fail "a PID has other events in a multiplex than alone"
     exits 0 payload "$scratch/multiplex" --pid 0x101
     grep -qx 'cmv: 3 packets are marked as scrambled or damaged: dropped' "$scratch/said" || fail "payload does not tell of dropped packets"
+    refuses 'no unit was found' payload "$scratch/multiplex" --pid 0x1fff
     refuses "$scratch/multiplex: no packet of PID 0x0102" times "$scratch/multiplex" --pid 258
 }
 

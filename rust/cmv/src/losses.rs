@@ -6,6 +6,8 @@ use clomaverift::{Error, Found, FoundUnit};
 /// What is left out so far.
 #[derive(Default)]
 pub struct Losses {
+    /// Units that were read.
+    read: u64,
     breaks: u64,
     dropped: u64,
     /// Units that could not be read or written, and the first of them.
@@ -25,7 +27,10 @@ impl Losses {
             Found::StoreFull { index, .. } => self.lose(index, Error::StoreFull),
             Found::Unit(unit) => match self.refused.take() {
                 Some(error) => self.lose(unit.index, error),
-                None => return Some(unit),
+                None => {
+                    self.read += 1;
+                    return Some(unit);
+                }
             },
             _ => (),
         }
@@ -38,7 +43,7 @@ impl Losses {
         self.first.get_or_insert((index, error));
     }
 
-    /// Tells what the recording has and the output has not. Fails if a unit could not be kept or written.
+    /// Tells what the recording has and the output has not. Fails if a unit could not be read or written, or if there is none.
     pub fn say(&self) -> Result<(), Failure> {
         if self.breaks > 0 {
             say(&format!("{}: a unit that a break cuts off is left out", counted(self.breaks, "break", "breaks")));
@@ -51,6 +56,7 @@ impl Losses {
         }
         let (index, error) = match self.first {
             Some(first) => first,
+            None if self.read == 0 => return Err(Failure::Said("no unit was found".to_string())),
             None => return Ok(()),
         };
         let units = counted(self.units, "unit is", "units are");
