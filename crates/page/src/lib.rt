@@ -6,14 +6,17 @@ use libc::STDOUT_FILENO;
 
 pub const PAGE: usize = 8192;
 
-// Writes the used part of the page.
-pub fn flush(page: &[u8; PAGE], used: usize) {
+// Writes the used part of the page, of which nothing is used then.
+pub fn flush(page: &[u8; PAGE], used: usize) -> usize
+    ensures { λ r. ⌜ r ≡ 0 ⌝ }
+{
     let bytes: &[u8] = page;
     if used < PAGE {
         io::write_all(STDOUT_FILENO, &bytes[0..used]);
     } else {
         io::write_all(STDOUT_FILENO, bytes);
     }
+    0
 }
 
 pub fn put(page: &mut [u8; PAGE], used: usize, b: u8) -> usize
