@@ -75,9 +75,9 @@ module _ (r : RowRead) (xs bs l : List ℕ) (t e : ℕ) (of : r ≡ machineOf xs
 -- ---- the gathering store
 
 -- a row that stands for nothing is refused alike by both: 1, 2, 14
-judged-alike : (p : List ℕ) → firstOf (notTaken p true []) ≡ firstOf (store.notState p)
+refused-alike : (p : List ℕ) → firstOf (notTaken p true []) ≡ firstOf (store.notState p)
 unfolding notTaken store.notState
-judged-alike p = refl
+refused-alike p = refl
 
 module _ (r : gather-row.RowRead) (xs p : List ℕ) (v : Event) (s : List ℕ) (of : r ≡ store.gatheringOf xs) where
   gathered-by : store.gatherBy r xs p v s ≡ store.rowGatherOf xs p v s
@@ -86,7 +86,7 @@ module _ (r : gather-row.RowRead) (xs p : List ℕ) (v : Event) (s : List ℕ) (
 
   pub gather-strayed : (n : ℕ) → r ≡ gather-row.RowRead.Stray → n ≡ firstOf (notTaken p true []) → store.rowGather n xs s ≡ store.rowGatherOf xs p v s
   gather-strayed n e f =
-      ap (λ (k : ℕ). store.rowGather k xs s) (f ∙ judged-alike p) ∙ (ap (λ (t : gather-row.RowRead). store.gatherBy t xs p v s) (sym e) ∙ gathered-by)
+      ap (λ (k : ℕ). store.rowGather k xs s) (f ∙ refused-alike p) ∙ (ap (λ (t : gather-row.RowRead). store.gatherBy t xs p v s) (sym e) ∙ gathered-by)
 
   module _ (g : Gathering) (e : r ≡ gather-row.RowRead.Is g) (o : gather.GatherOutcome) (s′ : List ℕ) (n : ℕ) (f : o ≡ gather.gatherOf g p v s) (k : s′ ≡ gather.storeOf g p v s)
       (h : n ≡ o .number) where
@@ -116,7 +116,7 @@ module _ (r : gather-row.RowRead) (xs p s : List ℕ) (of : r ≡ store.gatherin
 
   pub held-strayed : {w : ℕ} {lent : List ℕ} → r ≡ gather-row.RowRead.Stray → w ≡ firstOf (notTaken p true []) → Reports (store.rowHeld xs p s) w lent lent
   held-strayed {w} e f =
-      let q = ap (λ (k : ℕ). answer k []) (judged-alike p) ∙ (ap (λ (t : gather-row.RowRead). store.heldBy t p s) (sym e) ∙ held-by) in
+      let q = ap (λ (k : ℕ). answer k []) (refused-alike p) ∙ (ap (λ (t : gather-row.RowRead). store.heldBy t p s) (sym e) ∙ held-by) in
       rw f (reports-as q (strayed-reports p))
 
   -- the answer of a state by what its bytes' reading gives
