@@ -23,6 +23,58 @@ up_to_date() { # FILE INPUT..
     [ -e "$1" ] && [ -z "$(find "${@:2}" -newer "$1" -print -quit)" ]
 }
 
+# ---- Proving.
+
+# These crates and all that they are built on, leaves first, by crates.txt.
+below() { # CRATE..
+    tac "$top/crates.txt" | awk -F '[: ]+' -v wanted="$*" '
+        BEGIN { for (i = split(wanted, names, " "); i > 0; i--) needed[names[i]] = 1 }
+        NF && $1 in needed { print $1; for (i = 2; i <= NF; i++) needed[$i] = 1 }' | tac
+}
+
+# Whether what is built of crates is there, and no source of them or of those below them is newer.
+crates_up_to_date() { # FILE CRATE..
+    local crate folder folders=()
+    for crate in $(below "${@:2}"); do
+        for folder in "$top/crates/$crate"/{src,specs,proofs}; do
+            [ ! -d "$folder" ] || folders+=("$folder")
+        done
+    done
+    up_to_date "$1" "${folders[@]}"
+}
+
+declare -A proved=() # the crates and archives that this run has proved
+
+# Says what is proved now, in how many steps, which are crates and archives, and how many minutes that takes from nothing.
+announce_proofs() { # WHAT STEPS MINUTES
+    proofs=$2
+    echo "$(basename "$0"): proving $1, in $2 steps: about $3 minutes on two cores, less where some are proved" >&2
+}
+
+# A line for one of them, with its seconds. One that was proved before and has not changed counts too, without a line.
+count_proof() { # NAME SECONDS
+    [ -z "${proved[$1]:-}" ] || return 0
+    proved[$1]=yes
+    [[ $2 = unchanged* ]] || printf '%4d of %d  %s, %s\n' "${#proved[@]}" "$proofs" "$1" "$2" >&2
+}
+
+# Runs rt. What it says goes to a log, which is named if it fails; a line is shown for each crate and archive.
+prove() { # RT-WORDS..
+    local line log=$target/prove.log began=$SECONDS
+    mkdir -p "$target"
+    while IFS= read -r line; do
+        echo "$line"
+        if [[ $line =~ ^rt:\ ([a-z_]+)\ proved\ \((.*)\)$ ]]; then
+            count_proof "${BASH_REMATCH[@]:1}"
+        elif [[ $line =~ ^rt:\ target/staticlib/([a-z_]+\.a)\  ]]; then
+            count_proof "${BASH_REMATCH[1]}" "$((SECONDS - began)) s"
+        fi
+    done < <(cd "$top" && rt "$@" 2>&1) >"$log"
+    wait $! || fail "'rt $*' failed; $log has what it said"
+}
+
+# ---- Rust over the library.
+
 # A compiler that has a std for the library's target. Debian's comes first: tools/setup brings it.
 find_rustc() {
     local found
