@@ -1,13 +1,20 @@
-/* Clomaverift: the header reader of a transport stream analyser, proved. The functions of libhost.a, libhost_streams.a and libhost_whole.a,
-   for C and C++. Made by tools/header from the sources of the crates host, host_streams and host_whole: not to be edited.
+/* Clomaverift: the header reader of a transport stream analyser, proved. The functions of libclomaverift.a, for C and C++ on x86-64. Made
+   by tools/header from the sources and from tools/header.txt: not to be edited.
 
-   A function returns one word: the number of its answer and, on a refusal, 256 times the first and 65,536 times the second number named
-   with it. On 0, and only then, it writes its out numbers, unless its comment says otherwise. A truth value is 0 or 1. A part of lent bytes
-   goes out as place and length.
+   A function returns 0 on success, else a word: number + 256 * first + 65536 * second, that is the number of the refusal and up to two
+   numbers that go with it, 0 where there are none. CMV_NUMBER, CMV_FIRST and CMV_SECOND take it apart. The comment of a function tells
+   every number that it refuses with, in the order in which it tests for them, and when; if it does not say when, the head of the group
+   does. A function without a result refuses nothing.
 
-   Bytes are lent as pointer and length, a row of numbers as a pointer to the first of as many as the function's comment says. No pointer
-   may be null, also where the length is 0, and no two of the numbers and bytes lent in one call may share a byte where one of them is
-   written. A function keeps no pointer, allocates nothing and has no state of its own. */
+   An out number, uint64_t *, is written on 0 and only then; one that the answer has no value for is written 0. So is a row of out numbers.
+   A row that is a state is written on 0 only, by cmv_gather on 20 too. Bytes that a function writes to, the log, the store and the output,
+   are as they were after every refusal. A truth value is 0 or 1. place and length are a part of a slice: it begins place bytes after the
+   first byte of the slice that the comment names, has length bytes, and lies within the slice.
+
+   A slice is a pointer and a length in bytes, a row a pointer to the first of its numbers. No pointer may be null, also where the length
+   is 0, and no two of the numbers and bytes lent in one call may share a byte where one of them is written. A function keeps no pointer,
+   allocates nothing and has no state of its own, so that several threads may call it, each on numbers and bytes that no other one
+   writes. */
 #ifndef CLOMAVERIFT_H
 #define CLOMAVERIFT_H
 
@@ -18,313 +25,600 @@
 extern "C" {
 #endif
 
-/* ---- Numbers. */
+#define CMV_VERSION "0.1.0"
 
+/* The layout of the library: its signatures, rows and numbers. An archive of another layout has another symbol in place of this one, and a
+   file that includes this header does not link with it. It takes part in a program by the pointer alone, which nothing has to read. */
+extern const unsigned char cmv_abi_1;
+#if defined(__has_attribute)
+#if __has_attribute(retain)
+__attribute__((used, retain))
+#else
+__attribute__((used))
+#endif
+#elif defined(__GNUC__)
+__attribute__((used))
+#endif
+static const unsigned char *const cmv_abi = &cmv_abi_1;
+
+/* The numbers of the answers. */
 enum {
     CMV_DONE = 0, /* accepted */
-    CMV_WRONG_LENGTH = 1, /* packet not 188 bytes, or bytes of a run not a multiple of 188; timestamp under 5; clock reference under 6; adaptation field empty */
-    CMV_NO_SYNC = 2, /* first byte not 47 hex */
-    CMV_SHORT_HEADER = 3, /* PES bytes under 6 */
-    CMV_BAD_START_CODE = 4, /* first three bytes not 00 00 01 */
-    CMV_SHORT_CONTENTS = 5, /* under 3 bytes after those 6 */
-    CMV_BAD_CHECK_BITS = 6, /* top two bits not 10 */
-    CMV_HEADER_PAST_BUFFER = 7, /* 3 + header data length is more than the bytes there */
-    CMV_FIELDS_PAST_HEADER = 8, /* flagged fields end past 3 + header data length */
-    CMV_FIELD_NOT_PRESENT = 9, /* flag clear; packet has no payload or adaptation field */
-    CMV_PTS_DTS_FLAGS_INVALID = 10, /* PTS/DTS flags 01 */
-    CMV_NOT_ENOUGH_DATA = 11, /* adaptation field or its extension too short for the field, or extension empty */
-    CMV_MARKER_BIT_NOT_SET = 12, /* with the bit number; copy info: bit 0 */
-    CMV_INCORRECT_PREFIX_BITS = 13, /* with expected and actual */
-    CMV_OUT_OF_RANGE = 14, /* a number that the original asserts on; a state, event or log place not possible */
-    CMV_LOG_FULL = 15, /* this packet's events need more than the free log bytes */
-    CMV_INDEX_FULL = 16, /* 4,294,967,295 packets already taken */
-    CMV_BAD_FIELD = 17, /* writer: a field that cannot be written */
-    CMV_TOO_LONG = 18, /* writer: more bytes than a unit may have */
-    CMV_NO_ROOM = 19, /* writer: output length / 188, rounded down, is below the count */
-    CMV_STORE_FULL = 20 /* gathering: the unit would exceed the store */
+    CMV_WRONG_LENGTH = 1, /* the length of a packet, a run, a timestamp or a clock reference is wrong, or an adaptation field is empty */
+    CMV_NO_SYNC = 2, /* the first byte of a packet is not 47 hex */
+    CMV_SHORT_HEADER = 3, /* a PES packet under 6 bytes */
+    CMV_BAD_START_CODE = 4, /* the first three bytes of a PES packet are not 00 00 01 */
+    CMV_SHORT_CONTENTS = 5, /* under 3 bytes after the head of a PES packet */
+    CMV_BAD_CHECK_BITS = 6, /* the top two bits after the head are not 10 */
+    CMV_HEADER_PAST_BUFFER = 7, /* the header data ends past the bytes */
+    CMV_FIELDS_PAST_HEADER = 8, /* the fields whose flags are set end past the header data */
+    CMV_FIELD_NOT_PRESENT = 9, /* the field is not there: its flag is 0, or the packet has no payload or no adaptation field */
+    CMV_PTS_DTS_FLAGS_INVALID = 10, /* the PTS_DTS_flags are 01 */
+    CMV_NOT_ENOUGH_DATA = 11, /* an adaptation field or its extension ends before the field does, or the extension is empty */
+    CMV_MARKER_BIT_NOT_SET = 12, /* a marker bit is 0; first: the number of the bit */
+    CMV_INCORRECT_PREFIX_BITS = 13, /* the four prefix bits of a timestamp are wrong; first: those expected, second: those found */
+    CMV_OUT_OF_RANGE = 14, /* a number is out of range: a value, a state, an event, a place of the log or the row of a unit */
+    CMV_LOG_FULL = 15, /* the events of the packet need more bytes than the log has left */
+    CMV_INDEX_FULL = 16, /* 4,294,967,295 packets were taken already */
+    CMV_BAD_FIELD = 17, /* the writer: a field cannot be written */
+    CMV_TOO_LONG = 18, /* the writer: more bytes than a unit may have */
+    CMV_NO_ROOM = 19, /* the writer: the output has no room for all packets */
+    CMV_STORE_FULL = 20 /* the gathering store: the unit would exceed the store */
 };
 
-/* The number of an answer, and the first and the second number named with a refusal: of 12 the bit; of 13 the bits expected and found. */
+/* The number of a word, and the first and the second number that go with it. */
 #define CMV_NUMBER(word) ((word) & 255)
 #define CMV_FIRST(word) ((word) >> 8 & 255)
 #define CMV_SECOND(word) ((word) >> 16)
 
-/* The kinds of events. */
-enum {
-    CMV_START_STREAM = 1,
-    CMV_BEGIN_PACKET = 2,
-    CMV_CONTINUE_PACKET = 3,
-    CMV_END_PACKET = 4,
-    CMV_CONTINUITY_ERROR = 5
-};
-
 /* The bytes of a packet. */
 #define CMV_PACKET_SIZE 188
 
-/* ---- The adaptation field and its extension, each without its length byte. */
+/* ---- Packets.
+   A packet is a slice of 188 bytes that begins with 47 hex. Every place is within the packet.
+   Refusals of the functions of this group:
+   1: the slice is not 188 bytes long.
+   2: its first byte is not 47 hex. */
 
-/* adaptation::discontinuity_indicator */
+/* is: whether b is 47 hex, the first byte of every packet.
+   Never refused. */
+uint32_t cmv_packet_is_sync_byte(uint8_t b, uint64_t *is);
+
+/* Whether buf is a packet.
+   Refused with 1, 2. */
+uint32_t cmv_packet_try_new(const uint8_t *buf, size_t buf_len);
+
+/* value: transport_error_indicator. 1 marks a packet that was damaged on its way.
+   Refused with 1, 2. */
+uint32_t cmv_packet_transport_error_indicator(const uint8_t *buf, size_t buf_len, uint64_t *value);
+
+/* value: payload_unit_start_indicator. 1 says that a unit, such as a PES packet, begins with the payload.
+   Refused with 1, 2. */
+uint32_t cmv_packet_payload_unit_start_indicator(const uint8_t *buf, size_t buf_len, uint64_t *value);
+
+/* value: transport_priority, 0 or 1.
+   Refused with 1, 2. */
+uint32_t cmv_packet_transport_priority(const uint8_t *buf, size_t buf_len, uint64_t *value);
+
+/* value: the PID, 0 to 8191.
+   Refused with 1, 2. */
+uint32_t cmv_packet_pid(const uint8_t *buf, size_t buf_len, uint64_t *value);
+
+/* scrambled: whether transport_scrambling_control is not 00. scheme: its two bits as a number, 0 if the packet is not scrambled.
+   Refused with 1, 2. */
+uint32_t cmv_packet_transport_scrambling_control(const uint8_t *buf, size_t buf_len, uint64_t *scrambled, uint64_t *scheme);
+
+/* field, payload: whether the two bits of adaptation_field_control announce an adaptation field, and a payload. What they announce may
+   still be refused with 9 by cmv_packet_adaptation_field or cmv_packet_payload.
+   Refused with 1, 2. */
+uint32_t cmv_packet_adaptation_control(const uint8_t *buf, size_t buf_len, uint64_t *field, uint64_t *payload);
+
+/* value: continuity_counter, 0 to 15.
+   Refused with 1, 2. */
+uint32_t cmv_packet_continuity_counter(const uint8_t *buf, size_t buf_len, uint64_t *value);
+
+/* place, length: the adaptation field without its length byte, within the packet. place is 5; length is 1 to 182 beside a payload, else
+   183.
+   Refused with 1, 2, 9.
+   9: no adaptation field is announced, or its length byte has another number. */
+uint32_t cmv_packet_adaptation_field(const uint8_t *buf, size_t buf_len, uint64_t *place, uint64_t *length);
+
+/* place, length: the payload, within the packet. It goes to the packet's end and is never empty.
+   Refused with 1, 2, 9.
+   9: no payload is announced, or the adaptation field leaves no byte for it. */
+uint32_t cmv_packet_payload(const uint8_t *buf, size_t buf_len, uint64_t *place, uint64_t *length);
+
+/* sync: 47 hex. size: 188.
+   Never refused. */
+uint32_t cmv_packet_constants(uint64_t *sync, uint64_t *size);
+
+/* All that the functions above tell of a packet, as a row. A word within it is that of the function, 0 or 9; with 9, place and length are
+   0.
+   Refused with 1, 2. */
+uint32_t cmv_packet_fields(const uint8_t *packet, size_t packet_len, uint64_t fields[15]);
+
+/* The places of the row of cmv_packet_fields. */
+enum {
+    CMV_PACKET_FIELDS_ERROR = 0, /* transport_error_indicator */
+    CMV_PACKET_FIELDS_START = 1, /* payload_unit_start_indicator */
+    CMV_PACKET_FIELDS_PRIORITY = 2, /* transport_priority */
+    CMV_PACKET_FIELDS_PID = 3, /* 0 to 8191 */
+    CMV_PACKET_FIELDS_COUNTER = 4, /* continuity_counter */
+    CMV_PACKET_FIELDS_SCRAMBLED = 5, /* whether the packet is scrambled */
+    CMV_PACKET_FIELDS_SCHEME = 6, /* transport_scrambling_control */
+    CMV_PACKET_FIELDS_FIELD = 7, /* whether an adaptation field is announced */
+    CMV_PACKET_FIELDS_PAYLOAD = 8, /* whether a payload is announced */
+    CMV_PACKET_FIELDS_FIELD_WORD = 9, /* of cmv_packet_adaptation_field */
+    CMV_PACKET_FIELDS_FIELD_PLACE = 10, /* within the packet */
+    CMV_PACKET_FIELDS_FIELD_LENGTH = 11, /* in bytes */
+    CMV_PACKET_FIELDS_PAYLOAD_WORD = 12, /* of cmv_packet_payload */
+    CMV_PACKET_FIELDS_PAYLOAD_PLACE = 13, /* within the packet */
+    CMV_PACKET_FIELDS_PAYLOAD_LENGTH = 14, /* in bytes */
+    CMV_PACKET_FIELDS_SIZE = 15 /* how many numbers the row has */
+};
+
+/* ---- The adaptation field.
+   buf is an adaptation field without its length byte, as cmv_packet_adaptation_field tells where it lies. Every place is within buf.
+   Refusals of the functions of this group:
+   1: buf is empty. */
+
+/* value: discontinuity_indicator, 0 or 1.
+   Refused with 1. */
 uint32_t cmv_adaptation_field_discontinuity_indicator(const uint8_t *buf, size_t buf_len, uint64_t *value);
 
-/* adaptation::random_access_indicator */
+/* value: random_access_indicator, 0 or 1.
+   Refused with 1. */
 uint32_t cmv_adaptation_field_random_access_indicator(const uint8_t *buf, size_t buf_len, uint64_t *value);
 
-/* adaptation::elementary_stream_priority_indicator */
+/* value: elementary_stream_priority_indicator, 0 or 1.
+   Refused with 1. */
 uint32_t cmv_adaptation_field_elementary_stream_priority_indicator(const uint8_t *buf, size_t buf_len, uint64_t *value);
 
-/* adaptation::pcr */
+/* base, extension: the PCR. base has 33 bits and counts 90 kHz, extension has 9 bits; cmv_clock_ref_into_u64 makes one number of them.
+   Refused with 1, 9, 11.
+   9: PCR_flag is 0.
+   11: buf ends before the PCR does. */
 uint32_t cmv_adaptation_field_pcr(const uint8_t *buf, size_t buf_len, uint64_t *base, uint64_t *extension);
 
-/* adaptation::opcr */
+/* base, extension: the OPCR, as of a PCR.
+   Refused with 1, 9, 11.
+   9: OPCR_flag is 0.
+   11: buf ends before the OPCR does. */
 uint32_t cmv_adaptation_field_opcr(const uint8_t *buf, size_t buf_len, uint64_t *base, uint64_t *extension);
 
-/* adaptation::splice_countdown */
+/* value: the byte splice_countdown, 0 to 255. The standard takes it for a signed number.
+   Refused with 1, 9, 11.
+   9: splicing_point_flag is 0.
+   11: buf ends before the byte. */
 uint32_t cmv_adaptation_field_splice_countdown(const uint8_t *buf, size_t buf_len, uint64_t *value);
 
-/* adaptation::transport_private_data_at: where what transport_private_data gives lies */
+/* place, length: the private data without its length byte. It may be empty.
+   Refused with 1, 9, 11.
+   9: transport_private_data_flag is 0.
+   11: buf ends before the length byte or before the data does. */
 uint32_t cmv_adaptation_field_transport_private_data(const uint8_t *buf, size_t buf_len, uint64_t *place, uint64_t *length);
 
-/* adaptation::adaptation_field_extension_at: where what adaptation_field_extension gives lies */
+/* place, length: the adaptation field extension without its length byte. It is never empty.
+   Refused with 1, 9, 11.
+   9: adaptation_field_extension_flag is 0.
+   11: buf ends before the length byte or before the extension does, or the length byte is 0. */
 uint32_t cmv_adaptation_field_extension(const uint8_t *buf, size_t buf_len, uint64_t *place, uint64_t *length);
 
-/* adaptation::extension::ltw_offset: kind 1 where it is valid */
+/* ---- The extension of the adaptation field.
+   buf is an adaptation field extension without its length byte, as cmv_adaptation_field_extension tells where it lies. */
+
+/* kind 1: ltw_valid_flag is 1, and offset is ltw_offset, 15 bits. kind 0: the flag is 0, and so is offset.
+   Refused with 9, 11.
+   9: ltw_flag is 0.
+   11: buf is empty, which is tested before 9, or ends before the two bytes do. */
 uint32_t cmv_adaptation_extension_ltw_offset(const uint8_t *buf, size_t buf_len, uint64_t *kind, uint64_t *offset);
 
-/* adaptation::extension::piecewise_rate */
+/* value: piecewise_rate, 22 bits.
+   Refused with 9, 11.
+   9: piecewise_rate_flag is 0.
+   11: buf is empty, which is tested before 9, or ends before the three bytes do. */
 uint32_t cmv_adaptation_extension_piecewise_rate(const uint8_t *buf, size_t buf_len, uint64_t *value);
 
-/* adaptation::extension::seamless_splice */
+/* splice: Splice_type, 4 bits. dts: DTS_next_AU, 33 bits, which counts 90 kHz.
+   Refused with 9, 11, 12.
+   9: seamless_splice_flag is 0.
+   11: buf is empty, which is tested before 9, or ends before the five bytes do.
+   12: a marker bit of the five bytes is 0; first: 7, 23 or 39, where 0 is the top bit of the first of them. */
 uint32_t cmv_adaptation_extension_seamless_splice(const uint8_t *buf, size_t buf_len, uint64_t *splice, uint64_t *dts);
 
-/* ---- What follows the head of a PES packet that carries parsed contents. */
+/* ---- Heads of PES packets.
+   buf begins with the head of a PES packet, six bytes, as a payload does if payload_unit_start_indicator is 1. Every place is within buf.
+   Refusals of the functions of this group:
+   3: buf is under 6 bytes.
+   4: its first three bytes are not 00 00 01. */
 
-/* contents::from_bytes */
+/* Whether buf begins with a head.
+   Refused with 3, 4. */
+uint32_t cmv_pes_header_from_bytes(const uint8_t *buf, size_t buf_len);
+
+/* kind C0 hex: audio, and E0 hex: video, each with the low five bits of the id in low. kind 0: an id below BC hex, which is in low. Any
+   other kind is the id itself, and low is 0; in hex: BC program stream map, BD private stream 1, BE padding, BF private stream 2, F0 ECM,
+   F1 EMM, F2 DSM-CC, F3 ISO 13522, F4 to F8 H.222.1 types A to E, F9 ancillary, FA SL-packetized, FB FlexMux, FC metadata, FD extended
+   stream id, FE reserved data, FF program stream directory.
+   Refused with 3, 4. */
+uint32_t cmv_pes_header_stream_id(const uint8_t *buf, size_t buf_len, uint64_t *kind, uint64_t *low);
+
+/* kind 1: bounded, and length is PES_packet_length, the bytes after the head. kind 0: unbounded, PES_packet_length is 0, and so is length.
+   Refused with 3, 4. */
+uint32_t cmv_pes_header_pes_packet_length(const uint8_t *buf, size_t buf_len, uint64_t *kind, uint64_t *length);
+
+/* place, length: all bytes after the head, which are not cut to PES_packet_length: place is 6. kind 1: they are parsed contents, for the
+   functions below. kind 0: they are the payload; the ids with a bare payload are, in hex, BC, BE, BF, F0, F1, F2, F8 and FF.
+   Refused with 3, 4. */
+uint32_t cmv_pes_header_contents(const uint8_t *buf, size_t buf_len, uint64_t *kind, uint64_t *place, uint64_t *length);
+
+/* All that the functions above tell of a head, as a row.
+   Refused with 3, 4. */
+uint32_t cmv_pes_header_fields(const uint8_t *buf, size_t buf_len, uint64_t fields[7]);
+
+/* The places of the row of cmv_pes_header_fields. */
+enum {
+    CMV_PES_HEADER_FIELDS_ID_KIND = 0, /* kind of cmv_pes_header_stream_id */
+    CMV_PES_HEADER_FIELDS_ID_LOW = 1, /* low of it */
+    CMV_PES_HEADER_FIELDS_LENGTH_KIND = 2, /* kind of cmv_pes_header_pes_packet_length */
+    CMV_PES_HEADER_FIELDS_LENGTH = 3, /* PES_packet_length */
+    CMV_PES_HEADER_FIELDS_CONTENTS_KIND = 4, /* kind of cmv_pes_header_contents */
+    CMV_PES_HEADER_FIELDS_CONTENTS_PLACE = 5, /* within buf */
+    CMV_PES_HEADER_FIELDS_CONTENTS_LENGTH = 6, /* in bytes */
+    CMV_PES_HEADER_FIELDS_SIZE = 7 /* how many numbers the row has */
+};
+
+/* ---- Parsed contents of PES packets.
+   buf is what follows the head, as cmv_pes_header_contents tells with kind 1: two bytes of flags, the length of the header data, the header
+   data and the payload. Every place is within buf.
+   Refusals of the functions of this group:
+   5: buf is under 3 bytes.
+   6: the top two bits of its first byte are not 10.
+   7: the header data, as long as the third byte says, ends past buf.
+   8: the fields whose flags are set end past the header data. */
+
+/* Whether buf is accepted by these tests.
+   Refused with 5, 6, 7, 8. */
 uint32_t cmv_pes_contents_from_bytes(const uint8_t *buf, size_t buf_len);
 
-/* contents::pes_priority */
+/* value: PES_priority, 0 or 1.
+   Refused with 5, 6, 7, 8. */
 uint32_t cmv_pes_contents_pes_priority(const uint8_t *buf, size_t buf_len, uint64_t *value);
 
-/* contents::pes_scrambling_control */
+/* value: PES_scrambling_control, 2 bits. The payload is told also if it is scrambled.
+   Refused with 5, 6, 7, 8. */
 uint32_t cmv_pes_contents_pes_scrambling_control(const uint8_t *buf, size_t buf_len, uint64_t *value);
 
-/* contents::flags */
+/* value: the second byte, from the top bit on PTS_DTS_flags 2 bits, ESCR_flag, ES_rate_flag, DSM_trick_mode_flag,
+   additional_copy_info_flag, PES_CRC_flag, PES_extension_flag.
+   Refused with 5, 6, 7, 8. */
 uint32_t cmv_pes_contents_flags(const uint8_t *buf, size_t buf_len, uint64_t *value);
 
-/* contents::pes_header_data_len */
+/* value: PES_header_data_length, the third byte.
+   Refused with 5, 6, 7, 8. */
 uint32_t cmv_pes_contents_pes_header_data_len(const uint8_t *buf, size_t buf_len, uint64_t *value);
 
-/* contents::data_alignment_indicator: 1 where aligned */
+/* value: data_alignment_indicator, 1 if the payload is aligned.
+   Refused with 5, 6, 7, 8. */
 uint32_t cmv_pes_contents_data_alignment_indicator(const uint8_t *buf, size_t buf_len, uint64_t *value);
 
-/* contents::copyright: 1 where undefined */
+/* value: the copyright bit. In the standard 1 is protected and 0 says nothing; in the Rust crates mpeg2ts-reader and clomaverift 1 is
+   Undefined and 0 is Protected.
+   Refused with 5, 6, 7, 8. */
 uint32_t cmv_pes_contents_copyright(const uint8_t *buf, size_t buf_len, uint64_t *value);
 
-/* contents::original_or_copy: 1 where original */
+/* value: original_or_copy, 1 for an original and 0 for a copy.
+   Refused with 5, 6, 7, 8. */
 uint32_t cmv_pes_contents_original_or_copy(const uint8_t *buf, size_t buf_len, uint64_t *value);
 
-/* contents::pts_dts: kind 1 a PTS, kind 2 a PTS and a DTS */
+/* kind 1: a PTS alone. kind 2: a PTS and a DTS. If ptsnumber is 0, pts is the PTS, 33 bits that count 90 kHz. If ptsnumber is 12, a marker
+   bit of it is 0 and pts is the number of that bit, 7, 23 or 39, where 0 is the top bit of its five bytes. So are dtsnumber and dts of the
+   DTS; with kind 1 both are 0. A marker bit that is 0 in one of the two does not refuse the other. The prefix bits of the two are not
+   looked at.
+   Refused with 5, 6, 7, 8, 9, 10.
+   9: PTS_DTS_flags are 00.
+   10: they are 01. */
 uint32_t cmv_pes_contents_pts_dts(const uint8_t *buf, size_t buf_len, uint64_t *kind, uint64_t *ptsnumber, uint64_t *pts,
     uint64_t *dtsnumber, uint64_t *dts);
 
-/* contents::escr */
+/* base, extension: the ESCR, 33 and 9 bits, as of a PCR. Its marker bits are not looked at.
+   Refused with 5, 6, 7, 8, 9.
+   9: ESCR_flag is 0. */
 uint32_t cmv_pes_contents_escr(const uint8_t *buf, size_t buf_len, uint64_t *base, uint64_t *extension);
 
-/* contents::es_rate */
+/* value: ES_rate, 22 bits, in units of 50 bytes a second. Its marker bits are not looked at.
+   Refused with 5, 6, 7, 8, 9.
+   9: ES_rate_flag is 0. */
 uint32_t cmv_pes_contents_es_rate(const uint8_t *buf, size_t buf_len, uint64_t *value);
 
-/* contents::dsm_trick_mode: kind 0 fast forward and kind 3 fast reverse, each with field id, intra slice refresh and frequency
-   truncation (which coefficients may be non-zero: 0 DC only, 1 the first three, 2 the first six, 3 all); kind 2 freeze frame, with field
-   id and reserved bits; kind 1 slow motion, kind 4 slow reverse and kind 5 a reserved mode, each with the control number as the original
-   gives it, and not with the five bits after it, which cmv_pes_contents_raw_trick_mode has. A number that a kind does not have is 0. */
+/* kind 0: fast forward, and kind 3: fast reverse; first is field_id, second intra_slice_refresh, third frequency_truncation (which
+   coefficients may be non-zero: 0 DC only, 1 the first three, 2 the first six, 3 all). kind 2: freeze frame; first is field_id, second the
+   reserved bits. kind 1: slow motion, kind 4: slow reverse and kind 5: a reserved mode; first is trick_mode_control, as mpeg2ts-reader
+   gives it, and not the five bits after it: they are in the byte that cmv_pes_contents_raw_trick_mode gives. A number that a kind does not
+   have is 0.
+   Refused with 5, 6, 7, 8, 9.
+   9: DSM_trick_mode_flag is 0. */
 uint32_t cmv_pes_contents_dsm_trick_mode(const uint8_t *buf, size_t buf_len, uint64_t *kind, uint64_t *first, uint64_t *second,
     uint64_t *third);
 
-/* contents::raw_trick_mode */
+/* value: the trick mode byte: trick_mode_control in its top three bits, and what the mode has in the five others.
+   Refused with 5, 6, 7, 8, 9.
+   9: DSM_trick_mode_flag is 0. */
 uint32_t cmv_pes_contents_raw_trick_mode(const uint8_t *buf, size_t buf_len, uint64_t *value);
 
-/* contents::additional_copy_info */
+/* value: additional_copy_info, 7 bits.
+   Refused with 5, 6, 7, 8, 9, 12.
+   9: additional_copy_info_flag is 0.
+   12: its marker bit is 0; first: 0, the top bit of its byte. */
 uint32_t cmv_pes_contents_additional_copy_info(const uint8_t *buf, size_t buf_len, uint64_t *value);
 
-/* contents::previous_pes_packet_crc */
+/* value: previous_PES_packet_CRC, 16 bits. It is compared with nothing.
+   Refused with 5, 6, 7, 8, 9.
+   9: PES_CRC_flag is 0. */
 uint32_t cmv_pes_contents_previous_pes_packet_crc(const uint8_t *buf, size_t buf_len, uint64_t *value);
 
-/* contents::pes_extension_at: where what pes_extension gives lies */
+/* place, length: the PES extension and the stuffing after it, up to the end of the header data. It may be empty.
+   Refused with 5, 6, 7, 8, 9.
+   9: PES_extension_flag is 0. */
 uint32_t cmv_pes_contents_pes_extension(const uint8_t *buf, size_t buf_len, uint64_t *place, uint64_t *length);
 
-/* contents::payload_at: where what payload gives lies */
+/* place, length: the payload, all bytes after the header data. It may be empty.
+   Refused with 5, 6, 7, 8. */
 uint32_t cmv_pes_contents_payload(const uint8_t *buf, size_t buf_len, uint64_t *place, uint64_t *length);
 
-/* EsRate::new, and its number */
+/* All that the functions above tell of parsed contents, as a row. A word within it is that of the function, for which 5 to 8 cannot come;
+   if it is not 0, the numbers after it are 0.
+   Refused with 5, 6, 7, 8. */
+uint32_t cmv_pes_contents_fields(const uint8_t *buf, size_t buf_len, uint64_t fields[34]);
+
+/* The places of the row of cmv_pes_contents_fields. */
+enum {
+    CMV_PES_CONTENTS_FIELDS_SCRAMBLING_CONTROL = 0, /* PES_scrambling_control */
+    CMV_PES_CONTENTS_FIELDS_PRIORITY = 1, /* PES_priority */
+    CMV_PES_CONTENTS_FIELDS_ALIGNMENT = 2, /* data_alignment_indicator */
+    CMV_PES_CONTENTS_FIELDS_COPYRIGHT = 3, /* the copyright bit */
+    CMV_PES_CONTENTS_FIELDS_ORIGINAL = 4, /* original_or_copy */
+    CMV_PES_CONTENTS_FIELDS_FLAGS = 5, /* the second byte */
+    CMV_PES_CONTENTS_FIELDS_HEADER_DATA_LENGTH = 6, /* PES_header_data_length */
+    CMV_PES_CONTENTS_FIELDS_TIMES_WORD = 7, /* of cmv_pes_contents_pts_dts */
+    CMV_PES_CONTENTS_FIELDS_TIMES_KIND = 8, /* 1 a PTS, 2 a PTS and a DTS */
+    CMV_PES_CONTENTS_FIELDS_PTS_NUMBER = 9, /* 0 or 12 */
+    CMV_PES_CONTENTS_FIELDS_PTS = 10, /* or the number of the bit */
+    CMV_PES_CONTENTS_FIELDS_DTS_NUMBER = 11, /* 0 or 12 */
+    CMV_PES_CONTENTS_FIELDS_DTS = 12, /* or the number of the bit */
+    CMV_PES_CONTENTS_FIELDS_ESCR_WORD = 13, /* of cmv_pes_contents_escr */
+    CMV_PES_CONTENTS_FIELDS_ESCR_BASE = 14, /* 33 bits */
+    CMV_PES_CONTENTS_FIELDS_ESCR_EXTENSION = 15, /* 9 bits */
+    CMV_PES_CONTENTS_FIELDS_RATE_WORD = 16, /* of cmv_pes_contents_es_rate */
+    CMV_PES_CONTENTS_FIELDS_RATE = 17, /* ES_rate */
+    CMV_PES_CONTENTS_FIELDS_TRICK_WORD = 18, /* of cmv_pes_contents_dsm_trick_mode */
+    CMV_PES_CONTENTS_FIELDS_TRICK_KIND = 19, /* kind of it */
+    CMV_PES_CONTENTS_FIELDS_TRICK_FIRST = 20, /* first of it */
+    CMV_PES_CONTENTS_FIELDS_TRICK_SECOND = 21, /* second of it */
+    CMV_PES_CONTENTS_FIELDS_TRICK_THIRD = 22, /* third of it */
+    CMV_PES_CONTENTS_FIELDS_RAW_TRICK_WORD = 23, /* of cmv_pes_contents_raw_trick_mode */
+    CMV_PES_CONTENTS_FIELDS_RAW_TRICK = 24, /* the trick mode byte */
+    CMV_PES_CONTENTS_FIELDS_COPY_INFO_WORD = 25, /* of cmv_pes_contents_additional_copy_info */
+    CMV_PES_CONTENTS_FIELDS_COPY_INFO = 26, /* 7 bits */
+    CMV_PES_CONTENTS_FIELDS_CRC_WORD = 27, /* of cmv_pes_contents_previous_pes_packet_crc */
+    CMV_PES_CONTENTS_FIELDS_CRC = 28, /* 16 bits */
+    CMV_PES_CONTENTS_FIELDS_EXTENSION_WORD = 29, /* of cmv_pes_contents_pes_extension */
+    CMV_PES_CONTENTS_FIELDS_EXTENSION_PLACE = 30, /* within buf */
+    CMV_PES_CONTENTS_FIELDS_EXTENSION_LENGTH = 31, /* in bytes */
+    CMV_PES_CONTENTS_FIELDS_PAYLOAD_PLACE = 32, /* within buf */
+    CMV_PES_CONTENTS_FIELDS_PAYLOAD_LENGTH = 33, /* in bytes */
+    CMV_PES_CONTENTS_FIELDS_SIZE = 34 /* how many numbers the row has */
+};
+
+/* value: rate, if it is an ES rate.
+   Refused with 14.
+   14: rate is 2^22 or more. */
 uint32_t cmv_es_rate_new(uint32_t rate, uint64_t *value);
 
-/* EsRate::bytes_per_second, of a number that is a rate */
+/* value: the bytes a second of the ES rate, 50 * rate.
+   Refused with 14.
+   14: rate is 2^22 or more. */
 uint32_t cmv_es_rate_bytes_per_second(uint32_t rate, uint64_t *value);
 
-/* ---- Clock references, counters, PIDs and the control bits of a packet's fourth byte. */
+/* ---- Timestamps.
+   A timestamp is five bytes: 4 prefix bits, and 33 bits in three parts with a marker bit after each. value counts 90 kHz. buf begins with
+   one, and may be longer.
+   Refusals of the functions of this group:
+   1: buf is under 5 bytes.
+   12: a marker bit is 0; first: 7, 23 or 39, where 0 is the top bit of the first byte. */
 
-/* ClockRef::from_slice */
-uint32_t cmv_clock_ref_from_slice(const uint8_t *buf, size_t buf_len, uint64_t *base, uint64_t *extension);
-
-/* ClockRef::from_parts, and its two values */
-uint32_t cmv_clock_ref_from_parts(uint64_t b, uint16_t e, uint64_t *base, uint64_t *extension);
-
-/* ClockRef::into_u64, of two numbers that are a clock reference */
-uint32_t cmv_clock_ref_into_u64(uint64_t base, uint16_t extension, uint64_t *number);
-
-/* ClockRef::eq, of two pairs of numbers that are clock references */
-uint32_t cmv_clock_ref_eq(uint64_t base, uint16_t extension, uint64_t base2, uint16_t extension2, uint64_t *same);
-
-/* ContinuityCounter::new, and its count */
-uint32_t cmv_continuity_counter_new(uint8_t count, uint64_t *value);
-
-/* ContinuityCounter::follows, of two numbers that are counters */
-uint32_t cmv_continuity_counter_follows(uint8_t count, uint8_t other, uint64_t *follows);
-
-/* Pid::new, and its number */
-uint32_t cmv_pid_new(uint16_t pid, uint64_t *value);
-
-/* Pid::try_from, and its number */
-uint32_t cmv_pid_try_from(uint16_t pid, uint64_t *value);
-
-/* AdaptationControl::has_adaptation_field and has_payload */
-uint32_t cmv_adaptation_control(uint8_t byte, uint64_t *field, uint64_t *payload);
-
-/* TransportScramblingControl::is_scrambled and scheme */
-uint32_t cmv_transport_scrambling_control(uint8_t byte, uint64_t *scrambled, uint64_t *scheme);
-
-/* Pid::MAX_VALUE and Pid::PID_COUNT */
-uint32_t cmv_control_constants(uint64_t *max, uint64_t *count);
-
-/* ---- Packets. */
-
-/* packet::is_sync_byte */
-uint32_t cmv_packet_is_sync_byte(uint8_t b, uint64_t *is);
-
-/* packet::try_new */
-uint32_t cmv_packet_try_new(const uint8_t *buf, size_t buf_len);
-
-/* packet::transport_error_indicator */
-uint32_t cmv_packet_transport_error_indicator(const uint8_t *buf, size_t buf_len, uint64_t *value);
-
-/* packet::payload_unit_start_indicator */
-uint32_t cmv_packet_payload_unit_start_indicator(const uint8_t *buf, size_t buf_len, uint64_t *value);
-
-/* packet::transport_priority */
-uint32_t cmv_packet_transport_priority(const uint8_t *buf, size_t buf_len, uint64_t *value);
-
-/* packet::pid */
-uint32_t cmv_packet_pid(const uint8_t *buf, size_t buf_len, uint64_t *value);
-
-/* packet::transport_scrambling_control */
-uint32_t cmv_packet_transport_scrambling_control(const uint8_t *buf, size_t buf_len, uint64_t *scrambled, uint64_t *scheme);
-
-/* packet::adaptation_control */
-uint32_t cmv_packet_adaptation_control(const uint8_t *buf, size_t buf_len, uint64_t *field, uint64_t *payload);
-
-/* packet::continuity_counter */
-uint32_t cmv_packet_continuity_counter(const uint8_t *buf, size_t buf_len, uint64_t *value);
-
-/* packet::adaptation_field_at: where what adaptation_field gives lies */
-uint32_t cmv_packet_adaptation_field(const uint8_t *buf, size_t buf_len, uint64_t *place, uint64_t *length);
-
-/* packet::payload_at: where what payload gives lies */
-uint32_t cmv_packet_payload(const uint8_t *buf, size_t buf_len, uint64_t *place, uint64_t *length);
-
-/* packet::SYNC_BYTE and packet::SIZE */
-uint32_t cmv_packet_constants(uint64_t *sync, uint64_t *size);
-
-/* ---- Heads of PES packets. */
-
-/* pes::from_bytes */
-uint32_t cmv_pes_header_from_bytes(const uint8_t *buf, size_t buf_len);
-
-/* pes::stream_id: kind C0 hex audio and E0 hex video, each with the low five bits of the id; kind 0 an id below BC hex, with the id. Any
-   other kind is the id itself, with 0: in hex BC program stream map, BD private stream 1, BE padding, BF private stream 2, F0 ECM, F1
-   EMM, F2 DSM-CC, F3 ISO 13522, F4 to F8 H.222.1 types A to E, F9 ancillary, FA SL-packetized, FB FlexMux, FC metadata, FD extended
-   stream id, FE reserved data, FF program stream directory. */
-uint32_t cmv_pes_header_stream_id(const uint8_t *buf, size_t buf_len, uint64_t *kind, uint64_t *low);
-
-/* pes::pes_packet_length: kind 0 unbounded, kind 1 bounded */
-uint32_t cmv_pes_header_pes_packet_length(const uint8_t *buf, size_t buf_len, uint64_t *kind, uint64_t *length);
-
-/* pes::contents: kind 0 bare payload, kind 1 parsed contents, and where they lie */
-uint32_t cmv_pes_header_contents(const uint8_t *buf, size_t buf_len, uint64_t *kind, uint64_t *place, uint64_t *length);
-
-/* ---- Timestamps. */
-
-/* Timestamp::from_pts_bytes */
+/* value: the timestamp, if its prefix is 0010.
+   Refused with 1, 13, 12.
+   13: the prefix is another; first: 2, second: the prefix that is there. */
 uint32_t cmv_timestamp_from_pts_bytes(const uint8_t *buf, size_t buf_len, uint64_t *value);
 
-/* Timestamp::from_dts_bytes */
+/* value: the timestamp, if its prefix is 0001.
+   Refused with 1, 13, 12.
+   13: the prefix is another; first: 1, second: the prefix that is there. */
 uint32_t cmv_timestamp_from_dts_bytes(const uint8_t *buf, size_t buf_len, uint64_t *value);
 
-/* Timestamp::from_bytes */
+/* value: the timestamp, by any prefix.
+   Refused with 1, 12. */
 uint32_t cmv_timestamp_from_bytes(const uint8_t *buf, size_t buf_len, uint64_t *value);
 
-/* Timestamp::from_u64, and its value */
+/* value: val, if it is taken for a timestamp: below 2^34, one bit more than a timestamp has, as mpeg2ts-reader takes it.
+   Refused with 14.
+   14: val is 2^34 or more. */
 uint32_t cmv_timestamp_from_u64(uint64_t val, uint64_t *value);
 
-/* Timestamp::likely_wrapped_since, of two numbers that are timestamps */
+/* wrapped: whether the clock probably began anew between since and val: val is at least 2^32 below since.
+   Refused with 14.
+   14: val or since is 2^34 or more. */
 uint32_t cmv_timestamp_likely_wrapped_since(uint64_t val, uint64_t since, uint64_t *wrapped);
 
-/* Timestamp::MAX and Timestamp::TIMEBASE */
+/* max: 2^33 - 1, the largest timestamp. timebase: 90,000.
+   Never refused. */
 uint32_t cmv_timestamp_constants(uint64_t *max, uint64_t *timebase);
 
-/* ---- The gathering store. The host keeps a state as a row of numbers and lends it: whether a unit is open, 0 or 1; how many bytes it
-   has; and where they lie, a place of the packet or 255 for the store. */
+/* ---- Clock references, counters, PIDs and the fourth byte of a packet.
+   A clock reference is a base of 33 bits, which counts 90 kHz, and an extension of 9 bits. byte is the fourth byte of a packet. */
 
-/* gather::gather over a lent row, of an event by its kind, place and length. On 0 and on 20 the row of the next state is written, on any
-   other refusal nothing is. state: 3 numbers */
-uint32_t cmv_gather(uint64_t state[3], const uint8_t *packet, size_t packet_len, uint8_t kind, uint8_t place, uint8_t length,
-    uint8_t *store, size_t store_len);
+/* base, extension: the clock reference in the first six bytes of buf, which may be longer. Its reserved bits are not looked at.
+   Refused with 1.
+   1: buf is under 6 bytes. */
+uint32_t cmv_clock_ref_from_slice(const uint8_t *buf, size_t buf_len, uint64_t *base, uint64_t *extension);
 
-/* The bytes so far (gather::held and gather::bytes): of which slice they are a part, 0 the packet and 1 the store, and the place and
-   length of the part. state: 3 numbers */
-uint32_t cmv_gather_bytes(const uint64_t state[3], const uint8_t *packet, size_t packet_len, const uint8_t *store, size_t store_len,
-    uint64_t *slice, uint64_t *place, uint64_t *length);
+/* base, extension: b and e, if they are a clock reference.
+   Refused with 14.
+   14: b is 2^33 or more, or e is 512 or more. */
+uint32_t cmv_clock_ref_from_parts(uint64_t b, uint16_t e, uint64_t *base, uint64_t *extension);
 
-/* ---- The event machine and its log. The host keeps a state as a row of numbers and lends it: phase 0, 1, 2 for Begin, Started and
-   IgnoreRest; the last counter or 255 for none; the packets taken so far; and the next free place of the log. */
+/* number: base * 300 + extension, which counts 27 MHz.
+   Refused with 14.
+   14: base is 2^33 or more, or extension is 512 or more. */
+uint32_t cmv_clock_ref_into_u64(uint64_t base, uint16_t extension, uint64_t *number);
 
-/* machine::step over a lent row. state: 4 numbers */
+/* same: whether base is base2 and extension is extension2.
+   Refused with 14.
+   14: base or base2 is 2^33 or more, or extension or extension2 is 512 or more. */
+uint32_t cmv_clock_ref_eq(uint64_t base, uint16_t extension, uint64_t base2, uint16_t extension2, uint64_t *same);
+
+/* value: count, if it is a counter.
+   Refused with 14.
+   14: count is above 15. */
+uint32_t cmv_continuity_counter_new(uint8_t count, uint64_t *value);
+
+/* follows: whether count is the next counter after other: other + 1, and 0 after 15.
+   Refused with 14.
+   14: count or other is above 15. */
+uint32_t cmv_continuity_counter_follows(uint8_t count, uint8_t other, uint64_t *follows);
+
+/* value: pid, if it is a PID.
+   Refused with 14.
+   14: pid is above 8191. */
+uint32_t cmv_pid_new(uint16_t pid, uint64_t *value);
+
+/* The same as cmv_pid_new.
+   Refused with 14.
+   14: pid is above 8191. */
+uint32_t cmv_pid_try_from(uint16_t pid, uint64_t *value);
+
+/* field, payload: whether byte announces an adaptation field, and a payload.
+   Never refused. */
+uint32_t cmv_adaptation_control(uint8_t byte, uint64_t *field, uint64_t *payload);
+
+/* scrambled: whether the top two bits of byte are not 00. scheme: these two bits as a number.
+   Never refused. */
+uint32_t cmv_transport_scrambling_control(uint8_t byte, uint64_t *scrambled, uint64_t *scheme);
+
+/* max: 8191, the largest PID. count: 8192.
+   Never refused. */
+uint32_t cmv_control_constants(uint64_t *max, uint64_t *count);
+
+/* ---- The event machine and its log.
+   A machine takes the packets of one PID in their order and writes events to a log: one state and one log for each PID. The caller keeps
+   the state as a row of numbers and lends it. A fresh state, before the first packet, is {0, 255, 0, 0}.
+   Refusals of the functions of this group:
+   1: packet is not 188 bytes long.
+   2: its first byte is not 47 hex. */
+
+/* The places of the row of cmv_machine_step, cmv_machine_run. */
+enum {
+    CMV_MACHINE_PHASE = 0, /* 0 before the first start, 1 after a start, 2 after a break up to the next start */
+    CMV_MACHINE_LAST = 1, /* the counter of the last packet, 255 if there is none */
+    CMV_MACHINE_TAKEN = 2, /* the packets taken so far, which is the index of the next one */
+    CMV_MACHINE_PLACE = 3, /* the next free byte of the log, a multiple of 8 */
+    CMV_MACHINE_SIZE = 4 /* how many numbers the row has */
+};
+
+/* A start is a packet whose payload_unit_start_indicator is 1, a break one whose counter is not the expected one. The log is a slice of
+   bytes, of which an event takes 8. A packet gives at most two events, so that 16 free bytes are enough for one packet. Once its events
+   are read the log can be used again: set PLACE to 0. */
+
+/* The kinds of events. */
+enum {
+    CMV_START_STREAM = 1, /* the first start, unless a break came before it */
+    CMV_BEGIN_PACKET = 2, /* a unit begins: the payload of a start that begins with the head of a PES packet */
+    CMV_CONTINUE_PACKET = 3, /* the unit goes on: the payload of a packet that is no start */
+    CMV_END_PACKET = 4, /* the unit before is over: the next start came */
+    CMV_CONTINUITY_ERROR = 5 /* a break: up to the next start no payload is told */
+};
+
+/* Takes one packet. On 0 the state is the next one and the packet's events stand in the log from the old PLACE on.
+   Refused with 1, 2, 14, 16, 15.
+   14: the state is impossible: PHASE above 2, LAST above 15 and not 255, TAKEN of more than 32 bits, or PLACE above log_len or no multiple
+   of 8.
+   16: TAKEN is 4,294,967,295.
+   15: the packet's events need more bytes than log has after PLACE. */
 uint32_t cmv_machine_step(uint64_t state[4], const uint8_t *packet, size_t packet_len, uint8_t *log, size_t log_len);
 
-/* machine::run over a lent row: how many packets were taken, and the number that the next one was refused with, 0 where all were taken.
-   state: 4 numbers */
+/* Takes packets, which follow each other in bytes, up to the first that is refused. On 0 taken is how many it took; ended is 0 if that is
+   all of them, else the number that the next one is refused with, 2, 16 or 15; and state and log are those after the packets taken. So if
+   ended is 15, read the log, set PLACE to 0 and go on from bytes + 188 * taken.
+   Refused with 1, 14.
+   1: bytes_len is not a multiple of 188.
+   14: the state is impossible, as of cmv_machine_step; also if there is no packet. */
 uint32_t cmv_machine_run(uint64_t state[4], const uint8_t *bytes, size_t bytes_len, uint8_t *log, size_t log_len, uint64_t *taken,
     uint64_t *ended);
 
-/* log::entry_at */
+/* kind, index, place, length: the event at byte at of the log. index is that of its packet: TAKEN when it was taken. place and length are
+   the payload within that packet; they are 0 for the kinds that have none.
+   Refused with 14.
+   14: at is no multiple of 8, or under 8 bytes of log follow it, or no event stands there: a kind outside 1 to 5, or low 12 bits that
+   are not 0. */
 uint32_t cmv_log_entry_at(const uint8_t *log, size_t log_len, size_t at, uint64_t *kind, uint64_t *index, uint64_t *place,
     uint64_t *length);
 
-/* ---- The writer. A unit's fields come as numbers. A flag is 0 for no and any other number for yes; where a field's flag is 0, its
-   value is not looked at. Times are 0 for none, 1 for a PTS alone, any other number for both. */
+/* ---- The gathering store.
+   A gathering store joins the payload of a unit, without its header, from the events of one PID: one state and one store for each PID. The
+   caller keeps the state as a row of numbers and lends it. A fresh state, before the first event, is {0, 0, 255}.
+   Refusals of the functions of this group:
+   1: packet is not 188 bytes long.
+   2: its first byte is not 47 hex. */
 
-/* writer::write: on 0 the number of packets is reported. */
+/* The places of the row of cmv_gather, cmv_gather_bytes. */
+enum {
+    CMV_GATHER_OPEN = 0, /* whether a unit is open */
+    CMV_GATHER_COUNT = 1, /* the bytes of the unit so far */
+    CMV_GATHER_LIES = 2, /* where they lie: a place within the packet, or 255 for the store */
+    CMV_GATHER_SIZE = 3 /* how many numbers the row has */
+};
+
+/* The bytes of the unit always stand at the start of the store, COUNT of them. After a begin they also lie in the packet, and LIES is
+   their place there. */
+
+/* Takes one event, by its kind, place and length as cmv_log_entry_at tells them, and the packet that it is an event of. A begin opens a
+   unit with the payload of its PES packet; if the head or the contents are refused, with no bytes. A continue adds its bytes if a unit is
+   open, else nothing. An end closes the unit and keeps its bytes and COUNT up to the next begin; also an end with no open unit keeps the
+   COUNT of the unit before. A break drops the unit: it is closed, and COUNT is 0. CMV_START_STREAM changes nothing. On 0 the next state is
+   written, and the bytes that are added to the store. On 20 the state is written too, {0, 0, 255}: the unit is dropped, and its rest adds
+   nothing up to the next begin; the store is not written. On any other refusal nothing is written.
+   Refused with 1, 2, 14, 20.
+   14: kind is outside 1 to 5 or place + length above 188, or the state is impossible: OPEN above 1, COUNT above store_len, or LIES not 255
+   and LIES + COUNT above 188.
+   20: the unit would have more than store_len bytes. */
+uint32_t cmv_gather(uint64_t state[3], const uint8_t *packet, size_t packet_len, uint8_t kind, uint8_t place, uint8_t length,
+    uint8_t *store, size_t store_len);
+
+/* Where the bytes of the unit lie: with slice 0 in packet, with slice 1 in store; place and length are within it. If the last event taken
+   that is not CMV_START_STREAM was a begin, they lie in the packet of that begin, and packet must be that one. Else they lie in the store
+   from its start on, and packet may be any packet; it is tested all the same. store is the one that was lent to cmv_gather.
+   Refused with 1, 2, 14.
+   14: the state is impossible, as of cmv_gather. */
+uint32_t cmv_gather_bytes(const uint64_t state[3], const uint8_t *packet, size_t packet_len, const uint8_t *store, size_t store_len,
+    uint64_t *slice, uint64_t *place, uint64_t *length);
+
+/* ---- The writer.
+   A flag is 0 for no and any other number for yes. If the flag of a field (escr_there, rate_there, trick_there, copy_there, crc_there)
+   is 0, its value is not looked at. times is 0 for none, 1 for a PTS alone, any other number for a PTS and a DTS. */
+
+/* Writes a unit, that is a PES packet with this payload, as packets of one PID, the fewest that can carry it. counter is the continuity
+   counter of the first. On 0 count is the number of packets, and they stand at the start of out; what is after them is as it was.
+   Refused with 17, 18, 19.
+   17: pid is not 16 to 8190; counter is above 15; id is below BC hex or has a bare payload (cmv_pes_header_contents); the unit is not
+   bounded and id is not E0 to EF hex; pts, dts or escr_base is 2^33 or more; escr_extension is above 299; rate is 0 or 2^22 or more; copy
+   is above 127.
+   18: payload_len is above 65,536; the unit is bounded and PES_packet_length would be above 65,535.
+   19: out_len / 188, rounded down, is below the number of packets. */
 uint32_t cmv_write(uint16_t pid, uint8_t counter, uint8_t id, uint8_t bounded, uint8_t priority, uint8_t alignment, uint8_t copyright,
     uint8_t original, uint8_t times, uint64_t pts, uint64_t dts, uint8_t escr_there, uint64_t escr_base, uint16_t escr_extension,
     uint8_t rate_there, uint32_t rate, uint8_t trick_there, uint8_t trick, uint8_t copy_there, uint8_t copy, uint8_t crc_there,
     uint16_t crc, const uint8_t *payload, size_t payload_len, uint8_t *out, size_t out_len, uint64_t *count);
-
-/* ---- Parsed contents of a PES packet at one call. */
-
-/* scrambling control, priority, alignment, copyright, original, the flags and the header data length; then the word and the numbers of
-   each of PTS and DTS, ESCR, ES rate, trick mode, raw trick mode, copy info, CRC and extension; then place and length of the payload.
-   fields: 34 numbers */
-uint32_t cmv_pes_contents_fields(const uint8_t *buf, size_t buf_len, uint64_t fields[34]);
-
-/* ---- Packets at one call. */
-
-/* error, start, priority, PID, counter, scrambled, scheme, whether an adaptation field and a payload are there by the control bits; then
-   word, place and length of the adaptation field, and of the payload. fields: 15 numbers */
-uint32_t cmv_packet_fields(const uint8_t *packet, size_t packet_len, uint64_t fields[15]);
-
-/* ---- Heads of PES packets at one call. */
-
-/* kind and low of the stream id, as cmv_pes_header_stream_id gives them; kind and length of PES_packet_length; kind, place and length of
-   what follows the head. fields: 7 numbers */
-uint32_t cmv_pes_header_fields(const uint8_t *buf, size_t buf_len, uint64_t fields[7]);
 
 #ifdef __cplusplus
 }

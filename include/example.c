@@ -1,6 +1,7 @@
-/* Prints the times of the packets of a transport stream, read from standard input, by the functions of libhost.a:
+/* Prints the times of the packets of a transport stream, read from standard input:
 
-       cc -I include include/example.c target/staticlib/libhost.a -o target/example
+       tools/library
+       cc -I include include/example.c target/library/libclomaverift.a -o target/example
        target/example <samples/sample.ts
 */
 #include <clomaverift.h>

@@ -1,12 +1,13 @@
-# shellcheck shell=bash
-# Sourced by the scripts of this folder: where things stand, how Rust is built over the library, how x86-64 programs are run.
+# shellcheck shell=bash disable=SC2034
+# Sourced by the scripts of this folder: where things stand, how crates are proved, how Rust is built over the library, how x86-64
+# programs are run.
 
 top=$(cd "$(dirname "${BASH_SOURCE[0]}")/.." && pwd -P)
 target=$top/target
-parts=(host host_streams host_whole) # the crates that are built as archives: together they are the library
-library=("${parts[@]/#/$target/staticlib/lib}")
-library=("${library[@]/%/.a}")
-triple=x86_64-unknown-linux-gnu # what the library is compiled for
+parts=(host host_streams host_whole)     # the crates whose entries are the library
+library=$target/library/libclomaverift.a # the library, which tools/library makes
+abi=1                                    # of its layout: raised if an entry's signature, a row or a number changes its meaning
+triple=x86_64-unknown-linux-gnu          # what the library is compiled for
 
 fail() {
     echo "$(basename "$0"): $*" >&2
@@ -15,8 +16,9 @@ fail() {
 
 on_x86() { [ "$(uname -m)" = x86_64 ]; }
 
-# The folder of the Rattle toolchain.
+# The folder of the Rattle toolchain, and a program of it for this machine.
 kit() { dirname "$(dirname "$(rt doc)")"; }
+kit_tool() { echo "$(kit)/on/$(uname -m)/toolchain/bin/$1"; } # NAME
 
 # Whether a file is there and no input is newer.
 up_to_date() { # FILE INPUT..
@@ -87,20 +89,12 @@ find_rustc() {
     fail "no rustc has a std for $triple: run tools/setup"
 }
 
-# The library, built from the proved crates.
-build_library() {
-    local part
-    for part in "${parts[@]}"; do
-        (cd "$top" && rt staticlib "$part") || fail "the library cannot be built"
-    done
-}
-
-# The library, built where an archive of it is not there.
+# The library, made if it is not there or older than a source.
 need_library() {
-    local archive
-    for archive in "${library[@]}"; do
-        [ -e "$archive" ] || { build_library && return; }
-    done
+    local made
+    made=$(dirname "$library")/made
+    crates_up_to_date "$made" "${parts[@]}" && up_to_date "$made" "$top"/tools/{library,common.sh} "$top/include/clomaverift.h" ||
+        "$top/tools/library" >/dev/null || fail "the library cannot be made"
 }
 
 # The oracle, in target/oracle: with Debian's crates or, where they do not build, with stand-ins for them.

@@ -1,10 +1,10 @@
-//! Links the archives of the proved library: those of the folder that CLOMAVERIFT_LIBRARY names, or of the repository's target/staticlib.
+//! Links the proved library, libclomaverift.a: that of the folder that CLOMAVERIFT_LIBRARY names, or of the repository's target/library.
 //! Where something is missing, it says what in one sentence.
 
 #[path = "src/declarations.rs"]
 mod declarations;
 
-use declarations::ARCHIVES;
+use declarations::ABI;
 use std::path::{Path, PathBuf};
 use std::process::{exit, Command};
 use std::{env, fs};
@@ -27,27 +27,36 @@ fn variable(name: &str) -> Option<String> {
 fn folder() -> PathBuf {
     match variable("CLOMAVERIFT_LIBRARY") {
         Some(folder) => PathBuf::from(folder),
-        None => Path::new(env!("CARGO_MANIFEST_DIR")).join("../../target/staticlib"),
+        None => Path::new(env!("CARGO_MANIFEST_DIR")).join("../../target/library"),
     }
 }
 
-/// Links the archives, if they are all there.
+/// Links the library, if it is there and has the layout that this crate was written for.
 fn link(folder: &Path) -> Result<(), String> {
-    let paths = ARCHIVES.map(|name| folder.join(format!("lib{name}.a")));
-    paths.iter().for_each(|path| println!("cargo:rerun-if-changed={}", path.display()));
-    let missing =
-        ARCHIVES.iter().zip(&paths).filter(|(_, path)| !path.is_file()).map(|(name, _)| format!("lib{name}.a"));
-    let missing: Vec<String> = missing.collect();
-    if !missing.is_empty() {
+    let archive = folder.join("libclomaverift.a");
+    println!("cargo:rerun-if-changed={}", archive.display());
+    let bytes = fs::read(&archive).map_err(|_| {
+        format!(
+            "{} has no libclomaverift.a: 'tools/library' in the repository makes it, and CLOMAVERIFT_LIBRARY can name another folder",
+            shown(folder)
+        )
+    })?;
+    if !has_symbol(&bytes, ABI) {
         return Err(format!(
-            "{} has no {}: 'rt staticlib NAME' in the repository builds libNAME.a, and CLOMAVERIFT_LIBRARY can name another folder",
-            shown(folder),
-            missing.join(", ")
+            "the libclomaverift.a of {} has another layout than this crate: it has no symbol {ABI}. Take both from one version",
+            shown(folder)
         ));
     }
     println!("cargo:rustc-link-search=native={}", folder.display());
-    ARCHIVES.iter().for_each(|name| println!("cargo:rustc-link-lib=static={name}"));
+    println!("cargo:rustc-link-lib=static=clomaverift");
     Ok(())
+}
+
+/// Whether an archive has a symbol: its index has the names, each with a zero byte after it.
+fn has_symbol(archive: &[u8], name: &str) -> bool {
+    let ended = format!("{name}\0");
+    let found = archive.windows(ended.len()).any(|some| some == ended.as_bytes());
+    found
 }
 
 /// A folder's path without `..`, if the folder exists.
@@ -55,7 +64,7 @@ fn shown(folder: &Path) -> String {
     fs::canonicalize(folder).unwrap_or_else(|_| folder.to_path_buf()).display().to_string()
 }
 
-/// The archives are x86-64 code with the calling convention of Unix.
+/// The library is x86-64 code with the calling convention of Unix.
 fn check_target() -> Result<(), String> {
     let target = variable("TARGET").unwrap_or_default();
     let windows = variable("CARGO_CFG_TARGET_OS").map_or(false, |os| os == "windows" || os == "uefi");
@@ -63,7 +72,7 @@ fn check_target() -> Result<(), String> {
         return Ok(());
     }
     Err(format!(
-        "the archives are for x86-64 and the target is {target}: build with '--target x86_64-unknown-linux-gnu', \
+        "the library is for x86-64 and the target is {target}: build with '--target x86_64-unknown-linux-gnu', \
          for which rust/clomaverift/.cargo/config.toml names a linker and a runner"
     ))
 }

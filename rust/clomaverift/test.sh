@@ -1,8 +1,8 @@
 #!/usr/bin/env bash
-# rust/clomaverift/test.sh : builds the crate over the archives of target/staticlib, by rustc alone, with and without std, and runs its
-# tests: those of its modules, of tests/, of its documentation, what its build script says, and the examples on the sample stream. An
-# archive that is missing is built first. On a machine other than x86-64 the tests run under Debian's qemu-user; if it is not installed
-# they are only built.
+# rust/clomaverift/test.sh : builds the crate over the library, by rustc alone, with and without std, and runs its tests: those of its
+# modules, of tests/, of its documentation, what its build script says, that it does not link with a library of another layout, and the
+# examples on the sample stream. The library is proved and built first if it is missing or older than a source. On a machine other than
+# x86-64 all of it runs under Debian's qemu-user, which tools/setup installs.
 set -euo pipefail
 # shellcheck source-path=SCRIPTDIR source=../../tools/common.sh
 . "$(dirname "$0")/../../tools/common.sh"
@@ -10,18 +10,15 @@ set -euo pipefail
 here=$top/rust/clomaverift
 out=$target/clomaverift
 rustc=$(find_rustc)
-libraries=(-L "native=$target/staticlib" "${parts[@]/#/-lstatic=}")
+linked=(-L "native=$(dirname "$library")" -lstatic=clomaverift)
 crate=(--extern "clomaverift=$out/libclomaverift.rlib")
 flags=(--target "$triple" --edition 2021 -D warnings)
 std=(--cfg 'feature="std"')
-# What runs a program, and the same for rustdoc. Rust's own start-up does not run under the toolchain's emulator, and a test has no other.
-runner=()
-doc_runner=()
+runner=$here/.cargo/runner # Rust's own start-up does not run under the toolchain's emulator, and a test has no other
 mapfile -t tests < <(basename -s .rs "$here"/tests/*.rs)
 if ! on_x86; then
     flags+=(-C linker=x86_64-linux-gnu-gcc)
-    runner=(qemu-x86_64 -L /)
-    doc_runner=(--test-runtool qemu-x86_64 --test-runtool-arg -L --test-runtool-arg /)
+    type -P qemu-x86_64 >/dev/null || fail "qemu-x86_64 is missing, under which the tests run on $(uname -m): run tools/setup"
 fi
 
 build() { # FILE PROGRAM RUSTC-WORDS..
@@ -30,9 +27,9 @@ build() { # FILE PROGRAM RUSTC-WORDS..
 
 build_all() {
     local name
-    build src/lib.rs no_std.rlib --crate-name clomaverift --crate-type rlib "${libraries[@]}"
-    build src/lib.rs libclomaverift.rlib --crate-name clomaverift --crate-type rlib "${std[@]}" "${libraries[@]}"
-    build src/lib.rs modules --crate-name clomaverift --test "${std[@]}" "${libraries[@]}"
+    build src/lib.rs no_std.rlib --crate-name clomaverift --crate-type rlib "${linked[@]}"
+    build src/lib.rs libclomaverift.rlib --crate-name clomaverift --crate-type rlib "${std[@]}" "${linked[@]}"
+    build src/lib.rs modules --crate-name clomaverift --test "${std[@]}" "${linked[@]}"
     build build.rs build_script
     for name in "${tests[@]}"; do
         build "tests/$name.rs" "$name" --test "${crate[@]}"
@@ -42,14 +39,30 @@ build_all() {
     done
 }
 
+# A library of another layout.
+make_other_library() {
+    mkdir -p "$out/other"
+    cp "$library" "$out/other/libclomaverift.a"
+    "$(kit_tool llvm-ar)" d "$out/other/libclomaverift.a" abi.o
+}
+
+# The crate's objects stand in the tests of its modules as they are, so that no compiler leaves out the reference.
+check_layout() {
+    if (build src/lib.rs other/modules --crate-name clomaverift --test "${std[@]}" -L "native=$out/other" -lstatic=clomaverift) >"$out/said" 2>&1; then
+        fail "the crate links with a library of another layout"
+    fi
+    grep -q "undefined reference to .cmv_abi_$abi'" "$out/said" || { cat "$out/said" && fail "it does not link, but for another reason"; }
+    echo "a library of another layout: does not link"
+}
+
 # Runs the tests of a program; what it says is shown where one fails.
 run_tests() { # PROGRAM
-    "${runner[@]}" "$out/$1" --quiet >"$out/said" 2>&1 || { cat "$out/said" && fail "a test of $1 failed"; }
+    "$runner" "$out/$1" --quiet >"$out/said" 2>&1 || { cat "$out/said" && fail "a test of $1 failed"; }
     echo "$1: $(grep '^test result' "$out/said")"
 }
 
 run_examples_of_documentation() {
-    "$(dirname "$rustc")/rustdoc" --test "${flags[@]}" "${std[@]}" "${doc_runner[@]}" --crate-name clomaverift "${crate[@]}" "$here/src/lib.rs" \
+    "$(dirname "$rustc")/rustdoc" --test "${flags[@]}" "${std[@]}" --test-runtool "$runner" --crate-name clomaverift "${crate[@]}" "$here/src/lib.rs" \
         >"$out/said" 2>&1 ||
         { cat "$out/said" && fail "an example of the documentation failed"; }
     echo "documentation: $(grep '^test result' "$out/said")"
@@ -58,7 +71,7 @@ run_examples_of_documentation() {
 # The build script with this environment. It fails, if it does, with one line.
 run_build_script() { # VARIABLE=VALUE..
     env -u CLOMAVERIFT_LIBRARY -u RUSTC_LINKER TARGET="$triple" HOST="$triple" RUSTC="$rustc" "$@" \
-        "${runner[@]}" "$out/build_script" 2>"$out/said" >"$out/linked"
+        "$runner" "$out/build_script" 2>"$out/said" >"$out/linked"
 }
 
 says() { # WORDS VARIABLE=VALUE..
@@ -69,19 +82,20 @@ says() { # WORDS VARIABLE=VALUE..
 }
 
 check_build_script() {
-    says 'the archives are for x86-64 and the target is aarch64-' TARGET=aarch64-unknown-linux-gnu
-    says '/nowhere has no libhost.a, libhost_streams.a, libhost_whole.a: ' CLOMAVERIFT_LIBRARY=/nowhere
+    says 'the library is for x86-64 and the target is aarch64-' TARGET=aarch64-unknown-linux-gnu
+    says '/nowhere has no libclomaverift.a: ' CLOMAVERIFT_LIBRARY=/nowhere
+    says "the libclomaverift.a of $out/other has another layout than this crate: it has no symbol cmv_abi_$abi. " CLOMAVERIFT_LIBRARY="$out/other"
     says 'no linker for x86-64 is named: ' HOST=aarch64-unknown-linux-gnu
     says 'the linker none-such is missing: ' HOST=aarch64-unknown-linux-gnu RUSTC_LINKER=none-such
     run_build_script CLOMAVERIFT_LIBRARY= || fail "the build script stops: $(cat "$out/said")"
-    [ "$(grep -c '^cargo:rustc-link-lib=static=' "$out/linked")" -eq "${#parts[@]}" ] || fail "the build script does not link the archives"
+    grep -qx 'cargo:rustc-link-lib=static=clomaverift' "$out/linked" || fail "the build script does not link the library"
     echo "build script: says what is missing"
 }
 
 run_examples() {
     local bytes
-    "${runner[@]}" "$out/times" "$top/samples/sample.ts" 2>/dev/null | diff "$here/examples/times.txt" - || fail "the example times prints something else"
-    bytes=$("${runner[@]}" "$out/payload" "$top/samples/sample.ts" 256 2>/dev/null | wc -c)
+    "$runner" "$out/times" "$top/samples/sample.ts" 2>/dev/null | diff "$here/examples/times.txt" - || fail "the example times prints something else"
+    bytes=$("$runner" "$out/payload" "$top/samples/sample.ts" 256 2>/dev/null | wc -c)
     [ "$bytes" -eq 7600 ] || fail "the example payload writes $bytes bytes" # four units: tools/sample says how long each is
     echo "examples: as stored"
 }
@@ -89,10 +103,8 @@ run_examples() {
 need_library
 mkdir -p "$out"
 build_all
-if ! on_x86 && ! type -P qemu-x86_64 >/dev/null; then
-    echo "the tests of rust/clomaverift are built, and not run on this machine: qemu-user is not installed"
-    exit 0
-fi
+make_other_library
+check_layout
 for name in modules "${tests[@]}"; do
     run_tests "$name"
 done

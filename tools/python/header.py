@@ -1,16 +1,21 @@
 """header.py [--check] : makes of the sources of the library's crates, which tools/common.sh lists, what callers in other languages need
-to be told of every exported function: include/clomaverift.h for C and C++, and rust/clomaverift/src/declarations.rs for all Rust of
-the repository. With --check nothing is written, and a file that differs from what would be made is named; the exit status is 1 then.
+to be told of every exported function: include/clomaverift.h for C and C++, with the words of tools/header.txt, and
+rust/clomaverift/src/declarations.rs for all Rust of the repository. With --check nothing is written: a file that differs from what would be
+made is named, and so is a file that has another version than rust/clomaverift/Cargo.toml; the exit status is 1 then.
 
 A `&[u8]` of the sources is two C arguments, pointer and length; a `&mut` number is a pointer, and so is a lent row of numbers, `&` or
 `&mut`; a number is itself.
 """
-import pathlib
+
 import re
 import sys
 
-TOP = pathlib.Path(__file__).resolve().parent.parent.parent
-CRATES = re.search(r"^parts=\(([\w ]+)\)", (TOP / "tools/common.sh").read_text(), re.MULTILINE)[1].split()
+from answers import answers, defined_numbers, upper
+from edits import TOP
+
+COMMON = (TOP / "tools/common.sh").read_text()
+CRATES = re.search(r"^parts=\(([\w ]+)\)", COMMON, re.M)[1].split()
+ABI = "cmv_abi_" + re.search(r"^abi=(\d+)", COMMON, re.M)[1]
 HEADER = TOP / "include" / "clomaverift.h"
 DECLARATIONS = TOP / "rust" / "clomaverift" / "src" / "declarations.rs"
 WIDTH = 140  # of a line of the header
@@ -18,21 +23,28 @@ RUST_WIDTH = 120  # of a line of Rust, as rust/rustfmt.toml has it
 
 SLICE = re.compile(r"&(mut )?\[u8\]")
 ROW = re.compile(r"&(?:mut )?\[(\w+); (\d+)\]")
-C_TYPES = {"u8": "uint8_t", "u16": "uint16_t", "u32": "uint32_t", "u64": "uint64_t", "usize": "size_t"}
+C_TYPES = {"u8": "uint8_t", "u16": "uint16_t", "u32": "uint32_t", "u64": "uint64_t", "usize": "size_t", None: "void"}
 
-ENTRY = re.compile(r'((?://[^\n]*\n)*)#\[no_mangle\]\npub extern "C" fn (\w+)\(([^)]*)\) -> (\w+)\n')
+ENTRY = re.compile(r'#\[no_mangle\]\npub extern "C" fn (\w+)\(([^)]*)\)(?: -> (\w+))?\n')
 EXPORTS = re.compile(r'#\[no_mangle\]|extern "C"')
 
 
-class Entry:
-    """An exported function: its name, what is said of it, its parameters (name and type) and the type of its answer."""
+# ---- the exported functions
 
-    def __init__(self, comment, name, parameters, answer):
-        self.comment = comment_text(comment)
+
+class Entry:
+    """An exported function: its name, its parameters and the type of its answer, if it has one; and where it stands."""
+
+    def __init__(self, name, parameters, answer, crate=None, module=None):
         self.name = name
         pairs = (one.split(":") for one in parameters.split(",") if one.strip())
         self.parameters = [Parameter(parameter.strip(), kind.strip()) for parameter, kind in pairs]
         self.answer = answer
+        self.crate, self.module = crate, module
+
+    def rows(self):
+        """How many numbers each of its rows has."""
+        return [one.count for one in self.parameters if one.count]
 
 
 class Parameter:
@@ -46,75 +58,106 @@ class Parameter:
         self.count = int(row[2]) if row else None
         self.number = "u8" if self.slice else row[1] if row else kind.removeprefix("&mut ")
         if self.number not in C_TYPES:
-            sys.exit(f"header.py: a parameter {name}: {kind} is not understood")
+            stop(f"a parameter {name}: {kind} is not understood")
 
 
-def comment_text(lines):
-    """The words of `//` lines, on one line."""
-    return " ".join(line[2:].strip() for line in lines.splitlines())
+def stop(why):
+    sys.exit(f"header.py: {why}")
 
 
-def entries(text, path):
-    found = [Entry(*match.groups()) for match in ENTRY.finditer(text)]
-    if 2 * len(found) != len(EXPORTS.findall(text)):
-        sys.exit(f"header.py: {path} exports a function that is not understood")
+def exported():
+    """All exported functions, in the order of the sources."""
+    found = []
+    for path in (path for crate in CRATES for path in sorted((TOP / "crates" / crate / "src").glob("*.rt"))):
+        text = path.read_text()
+        some = [Entry(*match.groups(), path.parts[-3], path.stem) for match in ENTRY.finditer(text)]
+        if 2 * len(some) != len(EXPORTS.findall(text)):
+            stop(f"{path} exports a function that is not understood")
+        found += some
     return found
 
 
-def first_comment(text):
-    return comment_text(re.match(r"(?://[^\n]*\n)*", text)[0])
-
-
-def with_module_named(said):
-    """A comment that ends by naming a module of another crate, `lends it (machine::row).`, goes on instead with what that module's first
-    comment says after its colon: a caller in another language does not look there."""
-    named = re.fullmatch(r"(.*) \((\w+)::(\w+)\)\.", said)
-    if not named:
-        return said
-    text = first_comment((TOP / "crates" / named[2] / "src" / f"{named[3]}.rt").read_text())
-    return f"{named[1]}: {text.split(': ', 1)[1]}"
-
-
-def modules(crate):
-    """For each source file of a crate that exports something: what its first comment says, and its entries."""
-    for path in sorted((TOP / "crates" / crate / "src").glob("*.rt")):
-        text = path.read_text()
-        found = entries(text, path)
-        if found:
-            yield with_module_named(first_comment(text)), found
-
-
-def listed(words):
-    """Words as a list in a sentence."""
-    return " and ".join(filter(None, (", ".join(words[:-1]), words[-1])))
-
-
-# ---- numbers
-
-
-def upper(name):
-    return re.sub(r"([A-Z])", r"_\1", name).upper()
-
-
 def numbers():
-    """Of each number: its name, itself, and when it is given. The definitions say it; the constants of the code have to be equal."""
-    text = (TOP / "crates/bits/specs/Numbers.antt").read_text()
-    defined = re.findall(r"-- ([^\n]*)\nabbrev pub (\w+) : ℕ\n\2 = (\d+)\n", text)
-    found = [(upper(name), int(number), when) for when, name, number in defined]
+    """Of each number: its name and itself. The definitions say it; the constants of the code have to be equal."""
+    found = [(upper(name), number) for name, number in defined_numbers().items()]
     code = re.findall(r"pub const (\w+): u32 = (\d+);", (TOP / "crates/host/src/numbers.rt").read_text())
-    if [(name, str(number)) for name, number, _ in found] != code:
-        sys.exit("header.py: the numbers of crates/bits/specs/Numbers.antt and crates/host/src/numbers.rt differ")
+    if [(name, str(number)) for name, number in found] != code:
+        stop("the numbers of crates/bits/specs/Numbers.antt and crates/host/src/numbers.rt differ")
     return found
 
 
 def kinds():
     """The kinds of events: of each its name and number."""
     found = re.findall(r"\nabbrev pub (\w+) : ℕ\n\1 = (\d+)\n", (TOP / "crates/log/specs/Entry.antt").read_text())
-    return [(upper(name), number) for name, number in found]
+    return [(upper(name), int(number)) for name, number in found]
 
 
 def packet_size():
     return re.search(r"\npub const SIZE: usize = (\d+);\n", (TOP / "crates/packet/src/lib.rt").read_text())[1]
+
+
+# ---- the words of tools/header.txt
+
+
+class Block:
+    """A block: its first line; its words; the numbers that it tells, each with when, or with nothing where the group has told it; the
+    numbers that stand within out numbers only; and the names that it tells, each with what it is."""
+
+    def __init__(self, text):
+        self.text, self.told, self.within, self.named = [], {}, [], {}
+        self.first, *lines = re.sub(r"\n +", " ", text).splitlines()
+        for line in lines:
+            if alone := re.fullmatch(r"(within )?(\d+(?: \d+)*)", line):
+                some = [int(number) for number in alone[2].split()]
+                self.within += some if alone[1] else []
+                self.told.update({} if alone[1] else dict.fromkeys(some))
+            elif number := re.fullmatch(r"(\d+): (.+)", line):
+                self.told[int(number[1])] = number[2]
+            elif name := re.fullmatch(r"([A-Z_]+): (.+)", line):
+                self.named[name[1]] = name[2]
+            else:
+                self.text.append(line)
+
+
+def blocks():
+    text = "\n".join(line for line in (TOP / "tools/header.txt").read_text().splitlines() if not line.startswith("#"))
+    if "::" in text:
+        stop("tools/header.txt has a name with '::', which a C user cannot look up")
+    return [Block(one) for one in re.split(r"\n{2,}", text.strip())]
+
+
+def check_entries(found, said):
+    """Every exported function is told once, and nothing else is; what it refuses with is what the sources have."""
+    names, told = sorted(entry.name for entry in found), sorted(block.first for block in said if block.first.startswith("cmv_"))
+    if names != told:
+        stop(f"tools/header.txt does not tell of each entry once: {', '.join(sorted(set(names) ^ set(told))) or 'one stands there twice'}")
+    group = None
+    for block in said:
+        if block.first.startswith("= "):
+            group = block
+        elif block.first.startswith("cmv_"):
+            [entry] = [one for one in found if one.name == block.first]
+            check_numbers(entry, block, group)
+
+
+def check_numbers(entry, block, group):
+    untold = [number for number, when in block.told.items() if when is None and group.told.get(number) is None]
+    if untold:
+        stop(f"tools/header.txt: {entry.name}: the group does not tell when it is refused with {untold[0]}")
+    ours, theirs = {*block.told, *block.within}, answers(entry.crate, entry.module, entry.name)
+    if ours != theirs:
+        stop(f"tools/header.txt: {entry.name}: the refusals told are {sorted(ours)}, those of the sources {sorted(theirs)}")
+
+
+def check_rows(found, said):
+    """Every row of an exported function has names for all its numbers."""
+    rows = {}
+    for block in said:
+        if row := re.fullmatch(r"row (\w+): (.+)", block.first):
+            rows.update({name: len(block.named) for name in row[2].split()})
+    for entry in found:
+        if entry.rows() != ([rows[entry.name]] if entry.name in rows else []):
+            stop(f"tools/header.txt: {entry.name}: its row has not as many names as it has numbers, {entry.rows()}")
 
 
 # ---- C
@@ -131,8 +174,10 @@ def wrapped(text, start, next_start, end):
     return "\n".join(lines + [line + end]) + "\n"
 
 
-def c_comment(text):
-    return wrapped(text, "/*", "  ", " */")
+def c_comment(paragraphs, start="/*", between=""):
+    """One comment, of a paragraph or more."""
+    starts, ends = [start] + ["  "] * (len(paragraphs) - 1), [""] * (len(paragraphs) - 1) + [" */"]
+    return between.join(wrapped(text, begun, "  ", end) for text, begun, end in zip(paragraphs, starts, ends))
 
 
 def c_parameter(one):
@@ -157,29 +202,63 @@ def laid_out(start, words, end, indent, width):
     return "\n".join(lines + [line]) + "\n"
 
 
-def c_said(entry):
-    """What is said of an entry, and how many numbers its rows have: in C the declaration does not hold a caller to it."""
-    rows = [f"{one.name}: {one.count} numbers" for one in entry.parameters if one.count]
-    return ". ".join([entry.comment.removesuffix("."), *rows]) if rows else entry.comment
+def refusals(block):
+    """When each number is given: a paragraph each."""
+    return [f"{number}: {when}." for number, when in block.told.items() if when]
 
 
-def c_declaration(entry):
+def c_entry(entry, block):
+    refused = f"Refused with {', '.join(map(str, block.told))}." if block.told else "Never refused."
     words = [word for parameter in entry.parameters for word in c_parameter(parameter)]
     start = f"{C_TYPES[entry.answer]} {entry.name}("
-    return c_comment(c_said(entry)) + laid_out(start, words, ");", "    ", WIDTH)
+    comment = c_comment([" ".join(block.text), *([refused] if entry.answer else []), *refusals(block)])
+    return comment + laid_out(start, words, ");", "    ", WIDTH)
 
 
-ARCHIVES = listed([f"lib{crate}.a" for crate in CRATES])
-INTRODUCTION = [
-    f"Clomaverift: the header reader of a transport stream analyser, proved. The functions of {ARCHIVES}, for C and C++. Made by "
-    f"tools/header from the sources of the crates {listed(CRATES)}: not to be edited.",
-    "A function returns one word: the number of its answer and, on a refusal, 256 times the first and 65,536 times the second number named "
-    "with it. On 0, and only then, it writes its out numbers, unless its comment says otherwise. A truth value is 0 or 1. A part of lent "
-    "bytes goes out as place and length.",
-    "Bytes are lent as pointer and length, a row of numbers as a pointer to the first of as many as the function's comment says. No "
-    "pointer may be null, also where the length is 0, and no two of the numbers and bytes lent in one call may share a byte where one of "
-    "them is written. A function keeps no pointer, allocates nothing and has no state of its own.",
-]
+def c_group(block):
+    told = ["Refusals of the functions of this group:", *refusals(block)] if block.told else []
+    return c_comment([block.first.removeprefix("= ") + ".", " ".join(block.text), *told], "/* ----")
+
+
+def c_enum(rows, comment):
+    """An enum of names, numbers and what each is."""
+    last = len(rows) - 1
+    lines = [f"    CMV_{name} = {number}{',' if at < last else ''} /* {what} */\n" for at, (name, number, what) in enumerate(rows)]
+    return c_comment([comment]) + "enum {\n" + "".join(lines) + "};\n"
+
+
+def c_numbers(block):
+    if list(block.told) != [number for _, number in numbers()]:
+        stop("tools/header.txt does not tell of each number")
+    return c_enum([(name, number, block.told[number]) for name, number in numbers()], "The numbers of the answers.")
+
+
+def c_kinds(block):
+    if list(block.named) != [name for name, _ in kinds()]:
+        stop("tools/header.txt does not tell of each kind of event")
+    return c_enum([(name, number, block.named[name]) for name, number in kinds()], "The kinds of events.")
+
+
+def c_row(block):
+    prefix, names = re.fullmatch(r"row CMV_(\w+): (.+)", block.first).groups()
+    rows = [(f"{prefix}_{name}", at, what) for at, (name, what) in enumerate(block.named.items())]
+    rows.append((f"{prefix}_SIZE", len(rows), "how many numbers the row has"))
+    return c_enum(rows, f"The places of the row of {', '.join(names.split())}.")
+
+
+def c_block(found, block):
+    if block.first.startswith("= "):
+        return c_group(block)
+    if block.first == "numbers":
+        return c_numbers(block)
+    if block.first == "kinds":
+        return c_kinds(block)
+    if block.first.startswith("row "):
+        return c_row(block)
+    if block.first.startswith("cmv_"):
+        return c_entry(next(entry for entry in found if entry.name == block.first), block)
+    return c_comment([" ".join([block.first, *block.text])])
+
 
 OPENING = """\
 #ifndef CLOMAVERIFT_H
@@ -193,8 +272,24 @@ extern "C" {
 #endif
 """
 
+ABI_NAMED = f"""\
+/* The layout of the library: its signatures, rows and numbers. An archive of another layout has another symbol in place of this one, and a
+   file that includes this header does not link with it. It takes part in a program by the pointer alone, which nothing has to read. */
+extern const unsigned char {ABI};
+#if defined(__has_attribute)
+#if __has_attribute(retain)
+__attribute__((used, retain))
+#else
+__attribute__((used))
+#endif
+#elif defined(__GNUC__)
+__attribute__((used))
+#endif
+static const unsigned char *const cmv_abi = &{ABI};
+"""
+
 WORDS = """\
-/* The number of an answer, and the first and the second number named with a refusal: of 12 the bit; of 13 the bits expected and found. */
+/* The number of a word, and the first and the second number that go with it. */
 #define CMV_NUMBER(word) ((word) & 255)
 #define CMV_FIRST(word) ((word) >> 8 & 255)
 #define CMV_SECOND(word) ((word) >> 16)
@@ -209,43 +304,38 @@ CLOSING = """\
 """
 
 
-def c_enum(rows):
-    """An enum of names and numbers, each with a comment or none."""
-    last = len(rows) - 1
-    lines = [f"    CMV_{name} = {number}{',' if at < last else ''}{said}\n" for at, (name, number, said) in enumerate(rows)]
-    return "enum {\n" + "".join(lines) + "};\n"
-
-
-def introduction():
-    """One comment, of a paragraph each."""
-    first, *middle, last = INTRODUCTION
-    paragraphs = [wrapped(first, "/*", "  ", "")] + [wrapped(one, "  ", "  ", "") for one in middle] + [wrapped(last, "  ", "  ", " */")]
-    return "\n".join(paragraphs)
-
-
-def header():
-    refusals = c_enum([(name, number, f" /* {when} */") for name, number, when in numbers()])
-    events = "/* The kinds of events. */\n" + c_enum([(name, number, "") for name, number in kinds()])
+def header(found):
+    said = blocks()
+    check_entries(found, said)
+    check_rows(found, said)
+    first = next(at for at, block in enumerate(said) if block.first == "numbers")
+    paragraphs = [" ".join([block.first, *block.text]) for block in said[:first]]
+    opening = c_comment(paragraphs, between="\n") + OPENING
+    version_said = f'#define CMV_VERSION "{version()}"\n'
     size = f"/* The bytes of a packet. */\n#define CMV_PACKET_SIZE {packet_size()}\n"
-    parts = [introduction() + OPENING, "/* ---- Numbers. */\n", refusals, WORDS, events, size]
-    for said, found in (module for crate in CRATES for module in modules(crate)):
-        parts.append(wrapped(said, "/* ----", "  ", " */"))
-        parts.extend(c_declaration(entry) for entry in found)
-    return "\n".join(parts + [CLOSING])
+    parts = [opening, version_said, ABI_NAMED, c_block(found, said[first]), WORDS, size]
+    return "\n".join(parts + [c_block(found, block) for block in said[first + 1 :]] + [CLOSING])
 
 
 # ---- Rust
 
 
-RUST_OPENING = """\
-//! The functions of the library, a block for each of its archives. Made by tools/header from the sources of the crates that the archives
-//! are built from: not to be edited. What each function does and asks, include/clomaverift.h says.
+RUST_OPENING = f"""\
+//! The functions of the library. Made by tools/header from the sources of the crates that it is built from: not to be edited. What each
+//! function does and asks, include/clomaverift.h says.
 //!
 //! A `&[u8]` of the sources is two arguments, pointer and length; a `&mut` number is a pointer, and so is a lent row of numbers.
 
 // A program declares them all, and calls some.
 #![allow(dead_code)]
 
+/// The symbol of the library's layout: its signatures, rows and numbers. An archive of another layout has another one.
+pub const ABI: &str = "{ABI}";
+
+#[rustfmt::skip]
+extern "C" {{
+    #[link_name = "{ABI}"]
+    pub static cmv_abi: u8;
 """
 
 
@@ -259,30 +349,50 @@ def rust_parameter(one):
 
 def rust_declaration(entry):
     words = [word for parameter in entry.parameters for word in rust_parameter(parameter)]
-    line = f"    pub fn {entry.name}({', '.join(words)}) -> {entry.answer};\n"
+    answer = f" -> {entry.answer}" if entry.answer else ""
+    line = f"    pub fn {entry.name}({', '.join(words)}){answer};\n"
     if len(line) <= RUST_WIDTH + 1:
         return line
-    return f"    pub fn {entry.name}(\n" + "".join(f"        {word},\n" for word in words) + f"    ) -> {entry.answer};\n"
+    return f"    pub fn {entry.name}(\n" + "".join(f"        {word},\n" for word in words) + f"    ){answer};\n"
 
 
-def rust_block(crate):
-    declared = "".join(rust_declaration(entry) for _, found in modules(crate) for entry in found)
-    return f'\n// lib{crate}.a\n#[rustfmt::skip]\nextern "C" {{\n{declared}}}\n'
+def declarations(found):
+    return RUST_OPENING + "".join(map(rust_declaration, found)) + "}\n"
 
 
-def declarations():
-    names = ", ".join(f'"{crate}"' for crate in CRATES)
-    archives = f"/// The names of the archives, without `lib` and `.a`.\npub const ARCHIVES: [&str; {len(CRATES)}] = [{names}];\n"
-    return RUST_OPENING + archives + "".join(map(rust_block, CRATES))
+# ---- the version
+
+
+VERSIONED = [  # the other files that have it, and where
+    ("rust/clomaverift/Cargo.lock", r'name = "clomaverift"\nversion = "([^"]+)"'),
+    ("rust/cmv/Cargo.toml", r'^version = "([^"]+)"'),
+    ("rust/cmv/Cargo.lock", r'name = "cmv"\nversion = "([^"]+)"'),
+    ("rust/cmv/Cargo.lock", r'name = "clomaverift"\nversion = "([^"]+)"'),
+    ("CHANGELOG.md", r"^## (\d+\.\d+\.\d+)"),  # the newest one stands first
+]
+
+
+def version():
+    """The version, which the manifest of the Rust crate says."""
+    return re.search(r'^version = "([^"]+)"', (TOP / "rust/clomaverift/Cargo.toml").read_text(), re.M)[1]
+
+
+def other_versions():
+    """The files that have another one."""
+    found = [(file, re.search(pattern, (TOP / file).read_text(), re.M)) for file, pattern in VERSIONED]
+    return sorted({file for file, one in found if not one or one[1] != version()})
 
 
 def main():
-    made = {HEADER: header(), DECLARATIONS: declarations()}
+    found = exported()
+    made = {HEADER: header(found), DECLARATIONS: declarations(found)}
     differing = [path for path, text in made.items() if not path.exists() or path.read_text() != text]
     if sys.argv[1:] == ["--check"]:
         for path in differing:
             print(f"header.py: {path.relative_to(TOP)} differs from what the sources say: run tools/header", file=sys.stderr)
-        sys.exit(1 if differing else 0)
+        for file in other_versions():
+            print(f"header.py: {file} has another version than rust/clomaverift/Cargo.toml, {version()}", file=sys.stderr)
+        sys.exit(1 if differing or other_versions() else 0)
     if sys.argv[1:]:
         sys.exit("usage: header.py [--check]")
     for path in differing:

@@ -208,8 +208,9 @@ def around(entry, module, part):
                 f"store i64 %n{nth}, ptr %l{nth}, align 8",
             ]
         inside.append(word)
-    kind = WORDS[entry.answer]
-    lines += [f"%r = call {kind} {inner}({', '.join(inside)})", f"ret {kind} %r"]
+    kind = WORDS[entry.answer] if entry.answer else "void"
+    call = f"call {kind} {inner}({', '.join(inside)})"
+    lines += [f"%r = {call}", f"ret {kind} %r"] if entry.answer else [call, "ret void"]
     return f"define {kind} @{entry.name}({', '.join(outside)}) {{\n" + "".join(f"  {line}\n" for line in lines) + "}\n"
 
 

@@ -1,17 +1,18 @@
-//! The functions of the library, a block for each of its archives. Made by tools/header from the sources of the crates that the archives
-//! are built from: not to be edited. What each function does and asks, include/clomaverift.h says.
+//! The functions of the library. Made by tools/header from the sources of the crates that it is built from: not to be edited. What each
+//! function does and asks, include/clomaverift.h says.
 //!
 //! A `&[u8]` of the sources is two arguments, pointer and length; a `&mut` number is a pointer, and so is a lent row of numbers.
 
 // A program declares them all, and calls some.
 #![allow(dead_code)]
 
-/// The names of the archives, without `lib` and `.a`.
-pub const ARCHIVES: [&str; 3] = ["host", "host_streams", "host_whole"];
+/// The symbol of the library's layout: its signatures, rows and numbers. An archive of another layout has another one.
+pub const ABI: &str = "cmv_abi_1";
 
-// libhost.a
 #[rustfmt::skip]
 extern "C" {
+    #[link_name = "cmv_abi_1"]
+    pub static cmv_abi: u8;
     pub fn cmv_adaptation_field_discontinuity_indicator(buf: *const u8, buf_len: usize, value: *mut u64) -> u32;
     pub fn cmv_adaptation_field_random_access_indicator(buf: *const u8, buf_len: usize, value: *mut u64) -> u32;
     pub fn cmv_adaptation_field_elementary_stream_priority_indicator(
@@ -115,11 +116,6 @@ extern "C" {
     pub fn cmv_timestamp_from_u64(val: u64, value: *mut u64) -> u32;
     pub fn cmv_timestamp_likely_wrapped_since(val: u64, since: u64, wrapped: *mut u64) -> u32;
     pub fn cmv_timestamp_constants(max: *mut u64, timebase: *mut u64) -> u32;
-}
-
-// libhost_streams.a
-#[rustfmt::skip]
-extern "C" {
     pub fn cmv_gather(
         state: *mut [u64; 3],
         packet: *const u8,
@@ -194,11 +190,6 @@ extern "C" {
         out_len: usize,
         count: *mut u64,
     ) -> u32;
-}
-
-// libhost_whole.a
-#[rustfmt::skip]
-extern "C" {
     pub fn cmv_pes_contents_fields(buf: *const u8, buf_len: usize, fields: *mut [u64; 34]) -> u32;
     pub fn cmv_packet_fields(packet: *const u8, packet_len: usize, fields: *mut [u64; 15]) -> u32;
     pub fn cmv_pes_header_fields(buf: *const u8, buf_len: usize, fields: *mut [u64; 7]) -> u32;

@@ -6,6 +6,12 @@ use crate::declarations::*;
 use crate::error::Error;
 use crate::writer::{Numbers, Unit};
 
+/// The layout of the library that this crate was written for. An archive of another one does not have the symbol, and a program does not
+/// link with it.
+#[used]
+// SAFETY: the symbol is a byte that nothing writes.
+static LAYOUT: &u8 = unsafe { &cmv_abi };
+
 /// The out numbers, or the refusal that the word says.
 #[inline]
 fn told<T>(word: u32, outs: T) -> Result<T, Error> {

@@ -87,14 +87,15 @@
 //!
 //! # Without std
 //!
-//! With `default-features = false` the crate is `no_std` and needs `alloc`; [`Error`] is then no `std::error::Error`. The archives
-//! call memory functions of C such as `memcpy`, which the C library has, and `compiler_builtins` for a target without one.
+//! With `default-features = false` the crate is `no_std` and needs `alloc`; [`Error`] is then no `std::error::Error`. The library
+//! calls memory functions of C such as `memcpy`, which the C library has, and `compiler_builtins` for a target without one.
 //!
 //! # Linking
 //!
-//! The library is a few archives for x86-64, `libhost.a` among them. The build script takes them from the folder that the environment
-//! variable `CLOMAVERIFT_LIBRARY` names or, if it is unset or empty, from the repository's `target/staticlib`, where `rt staticlib host`
-//! writes `libhost.a`, and so the others. If an archive, a linker for x86-64 or the target's standard library is missing, it says which.
+//! The library is an archive for x86-64, `libclomaverift.a`. The build script takes it from the folder that the environment variable
+//! `CLOMAVERIFT_LIBRARY` names or, if it is unset or empty, from the repository's `target/library`, where `tools/library` makes it. If the
+//! archive, a linker for x86-64 or the target's standard library is missing, it says which; so it does if the archive is of a version whose
+//! layout this crate does not know.
 //!
 //! On a machine that is not x86-64, build for `x86_64-unknown-linux-gnu`: the crate's `.cargo/config.toml` names a linker and a runner
 //! for it, and a project that depends on this crate needs a copy of that `.cargo` folder.
