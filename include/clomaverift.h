@@ -28,7 +28,7 @@ extern "C" {
 #define CMV_VERSION "0.1.0"
 
 /* The layout of the library: its signatures, rows and numbers. An archive of another layout has another symbol in place of this one, and a
-   file that includes this header does not link with it. It takes part in a program by the pointer alone, which nothing has to read. */
+   file that includes this header does not link with it. The pointer is the reference; nothing has to read it. */
 extern const unsigned char cmv_abi_1;
 #if defined(__has_attribute)
 #if __has_attribute(retain)
@@ -120,7 +120,7 @@ uint32_t cmv_packet_continuity_counter(const uint8_t *buf, size_t buf_len, uint6
 /* place, length: the adaptation field without its length byte, within the packet. place is 5; length is 1 to 182 beside a payload, else
    183.
    Refused with 1, 2, 9.
-   9: no adaptation field is announced, or its length byte has another number. */
+   9: no adaptation field is announced, or its length byte says another length than these. */
 uint32_t cmv_packet_adaptation_field(const uint8_t *buf, size_t buf_len, uint64_t *place, uint64_t *length);
 
 /* place, length: the payload, within the packet. It goes to the packet's end and is never empty.
@@ -132,7 +132,7 @@ uint32_t cmv_packet_payload(const uint8_t *buf, size_t buf_len, uint64_t *place,
    Never refused. */
 uint32_t cmv_packet_constants(uint64_t *sync, uint64_t *size);
 
-/* All that the functions above tell of a packet, as a row. A word within it is that of the function, 0 or 9; with 9, place and length are
+/* All that the functions above report of a packet, as a row. A word within it is that of the function, 0 or 9; with 9, place and length are
    0.
    Refused with 1, 2. */
 uint32_t cmv_packet_fields(const uint8_t *packet, size_t packet_len, uint64_t fields[15]);
@@ -158,7 +158,7 @@ enum {
 };
 
 /* ---- The adaptation field.
-   buf is an adaptation field without its length byte, as cmv_packet_adaptation_field tells where it lies. Every place is within buf.
+   buf is an adaptation field without its length byte, the part that cmv_packet_adaptation_field reports. Every place is within buf.
    Refusals of the functions of this group:
    1: buf is empty. */
 
@@ -205,7 +205,7 @@ uint32_t cmv_adaptation_field_transport_private_data(const uint8_t *buf, size_t 
 uint32_t cmv_adaptation_field_extension(const uint8_t *buf, size_t buf_len, uint64_t *place, uint64_t *length);
 
 /* ---- The extension of the adaptation field.
-   buf is an adaptation field extension without its length byte, as cmv_adaptation_field_extension tells where it lies. */
+   buf is an adaptation field extension without its length byte, the part that cmv_adaptation_field_extension reports. */
 
 /* kind 1: ltw_valid_flag is 1, and offset is ltw_offset, 15 bits. kind 0: the flag is 0, and so is offset.
    Refused with 9, 11.
@@ -227,7 +227,8 @@ uint32_t cmv_adaptation_extension_piecewise_rate(const uint8_t *buf, size_t buf_
 uint32_t cmv_adaptation_extension_seamless_splice(const uint8_t *buf, size_t buf_len, uint64_t *splice, uint64_t *dts);
 
 /* ---- Heads of PES packets.
-   buf begins with the head of a PES packet, six bytes, as a payload does if payload_unit_start_indicator is 1. Every place is within buf.
+   buf begins with the head of a PES packet, six bytes: so does, on a PID that carries PES packets, the payload of a packet whose
+   payload_unit_start_indicator is 1. Every place is within buf.
    Refusals of the functions of this group:
    3: buf is under 6 bytes.
    4: its first three bytes are not 00 00 01. */
@@ -252,7 +253,7 @@ uint32_t cmv_pes_header_pes_packet_length(const uint8_t *buf, size_t buf_len, ui
    Refused with 3, 4. */
 uint32_t cmv_pes_header_contents(const uint8_t *buf, size_t buf_len, uint64_t *kind, uint64_t *place, uint64_t *length);
 
-/* All that the functions above tell of a head, as a row.
+/* All that the functions above report of a head, as a row.
    Refused with 3, 4. */
 uint32_t cmv_pes_header_fields(const uint8_t *buf, size_t buf_len, uint64_t fields[7]);
 
@@ -269,8 +270,8 @@ enum {
 };
 
 /* ---- Parsed contents of PES packets.
-   buf is what follows the head, as cmv_pes_header_contents tells with kind 1: two bytes of flags, the length of the header data, the header
-   data and the payload. Every place is within buf.
+   buf is what follows the head, the part that cmv_pes_header_contents reports with kind 1: two bytes of flags, the length of the header
+   data, the header data and the payload. Every place is within buf.
    Refusals of the functions of this group:
    5: buf is under 3 bytes.
    6: the top two bits of its first byte are not 10.
@@ -285,7 +286,7 @@ uint32_t cmv_pes_contents_from_bytes(const uint8_t *buf, size_t buf_len);
    Refused with 5, 6, 7, 8. */
 uint32_t cmv_pes_contents_pes_priority(const uint8_t *buf, size_t buf_len, uint64_t *value);
 
-/* value: PES_scrambling_control, 2 bits. The payload is told also if it is scrambled.
+/* value: PES_scrambling_control, 2 bits. cmv_pes_contents_payload reports the payload also if it is scrambled.
    Refused with 5, 6, 7, 8. */
 uint32_t cmv_pes_contents_pes_scrambling_control(const uint8_t *buf, size_t buf_len, uint64_t *value);
 
@@ -366,7 +367,7 @@ uint32_t cmv_pes_contents_pes_extension(const uint8_t *buf, size_t buf_len, uint
    Refused with 5, 6, 7, 8. */
 uint32_t cmv_pes_contents_payload(const uint8_t *buf, size_t buf_len, uint64_t *place, uint64_t *length);
 
-/* All that the functions above tell of parsed contents, as a row. A word within it is that of the function, for which 5 to 8 cannot come;
+/* All that the functions above report of parsed contents, as a row. A word within it is that of the function, of which 5 to 8 cannot come;
    if it is not 0, the numbers after it are 0.
    Refused with 5, 6, 7, 8. */
 uint32_t cmv_pes_contents_fields(const uint8_t *buf, size_t buf_len, uint64_t fields[34]);
@@ -446,7 +447,7 @@ uint32_t cmv_timestamp_from_bytes(const uint8_t *buf, size_t buf_len, uint64_t *
    14: val is 2^34 or more. */
 uint32_t cmv_timestamp_from_u64(uint64_t val, uint64_t *value);
 
-/* wrapped: whether the clock probably began anew between since and val: val is at least 2^32 below since.
+/* wrapped: whether the clock probably wrapped between since and val: val is at least 2^32 below since.
    Refused with 14.
    14: val or since is 2^34 or more. */
 uint32_t cmv_timestamp_likely_wrapped_since(uint64_t val, uint64_t since, uint64_t *wrapped);
@@ -536,7 +537,7 @@ enum {
     CMV_BEGIN_PACKET = 2, /* a unit begins: the payload of a start that begins with the head of a PES packet */
     CMV_CONTINUE_PACKET = 3, /* the unit goes on: the payload of a packet that is no start */
     CMV_END_PACKET = 4, /* the unit before is over: the next start came */
-    CMV_CONTINUITY_ERROR = 5 /* a break: up to the next start no payload is told */
+    CMV_CONTINUITY_ERROR = 5 /* a break: up to the next start no payload is reported */
 };
 
 /* Takes one packet. On 0 the state is the next one and the packet's events stand in the log from the old PLACE on.
@@ -549,7 +550,7 @@ uint32_t cmv_machine_step(uint64_t state[4], const uint8_t *packet, size_t packe
 
 /* Takes packets, which follow each other in bytes, up to the first that is refused. On 0 taken is how many it took; ended is 0 if that is
    all of them, else the number that the next one is refused with, 2, 16 or 15; and state and log are those after the packets taken. So if
-   ended is 15, read the log, set PLACE to 0 and go on from bytes + 188 * taken.
+   ended is 15, read the log, set PLACE to 0 and go on from bytes + 188 * taken; if it is 2, pass over the packet there.
    Refused with 1, 14.
    1: bytes_len is not a multiple of 188.
    14: the state is impossible, as of cmv_machine_step; also if there is no packet. */
@@ -582,7 +583,7 @@ enum {
 /* The bytes of the unit always stand at the start of the store, COUNT of them. After a begin they also lie in the packet, and LIES is
    their place there. */
 
-/* Takes one event, by its kind, place and length as cmv_log_entry_at tells them, and the packet that it is an event of. A begin opens a
+/* Takes one event, by its kind, place and length as cmv_log_entry_at reports them, and the packet that it is an event of. A begin opens a
    unit with the payload of its PES packet; if the head or the contents are refused, with no bytes. A continue adds its bytes if a unit is
    open, else nothing. An end closes the unit and keeps its bytes and COUNT up to the next begin; also an end with no open unit keeps the
    COUNT of the unit before. A break drops the unit: it is closed, and COUNT is 0. CMV_START_STREAM changes nothing. On 0 the next state is

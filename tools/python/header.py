@@ -274,7 +274,7 @@ extern "C" {
 
 ABI_NAMED = f"""\
 /* The layout of the library: its signatures, rows and numbers. An archive of another layout has another symbol in place of this one, and a
-   file that includes this header does not link with it. It takes part in a program by the pointer alone, which nothing has to read. */
+   file that includes this header does not link with it. The pointer is the reference; nothing has to read it. */
 extern const unsigned char {ABI};
 #if defined(__has_attribute)
 #if __has_attribute(retain)
