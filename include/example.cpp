@@ -1,5 +1,5 @@
-/* Prints the units of a transport stream of one PID, read from standard input: the packet that each begins in, its PTS and DTS, and how many
-   bytes its payload has. A unit that a break cuts off is left out.
+/* Prints the units of a transport stream of one PID, read from standard input: the packet that each begins in, its PTS and DTS, and how
+   many bytes its payload has. A unit that a break cuts off is left out.
 
        tools/library
        c++ -std=c++11 -I include include/example.cpp target/library/libclomaverift.a -o target/example

@@ -51,7 +51,7 @@ check_layout() {
     if (build src/lib.rs other/modules --crate-name clomaverift --test "${std[@]}" -L "native=$out/other" -lstatic=clomaverift) >"$out/said" 2>&1; then
         fail "the crate links with a library of another layout"
     fi
-    grep -q "undefined reference to .cmv_abi_$abi'" "$out/said" || { cat "$out/said" && fail "it does not link, but for another reason"; }
+    grep -q "undefined reference to .cmv_abi_$abi'" "$out/said" || { cat "$out/said" && fail "it does not link, for another reason"; }
     echo "a library of another layout: does not link"
 }
 

@@ -77,13 +77,18 @@ def by_definition(promise, text):
 # ---- code
 
 
-FUNCTION = re.compile(r'^(?:pub )?(?:extern "C" )?fn (\w+)\([^)]*\)[^\n]*\n(?P<promise>(?:    ensures .*\n(?:        .*\n)*)?)(?P<body>\{\n(?:.*\n)*?\})', re.M)
+FUNCTION = re.compile(
+    r'^(?:pub )?(?:extern "C" )?fn (?P<name>\w+)\([^)]*\).*\n'
+    r"(?P<promise>(?:    ensures .*\n(?:        .*\n)*)?)"
+    r"(?P<body>\{\n(?:.*\n)*?\})",
+    re.M,
+)
 CONSTANT = re.compile(r"^pub const ([A-Z_]+): u32 = \d+;", re.M)
 USED = re.compile(r"^use (\w+)((?:::\w+)*)::(\w+);", re.M)
 
 
 def functions(text):
-    return {found[1]: found for found in FUNCTION.finditer(text)}
+    return {found["name"]: found for found in FUNCTION.finditer(text)}
 
 
 @functools.cache
@@ -94,7 +99,8 @@ def code(here):
         return None
     text = re.sub(r"//.*$", "", path.read_text(), flags=re.M)
     bodies = {name: found["body"] for name, found in functions(text).items()}
-    taken = {name: (here[0] if crate == "crate" else crate, module.removeprefix("::") or "lib") for crate, module, name in USED.findall(text)}
+    used = USED.findall(text.replace("use crate::", f"use {here[0]}::"))
+    taken = {name: (crate, module.removeprefix("::") or "lib") for crate, module, name in used}
     return File({**bodies, **{name: "" for name in CONSTANT.findall(text)}}, taken)
 
 
