@@ -46,9 +46,11 @@ make_other_library() {
     "$(kit_tool llvm-ar)" d "$out/other/libclomaverift.a" abi.o
 }
 
-# The crate's objects stand in the tests of its modules as they are, so that no compiler leaves out the reference.
+# Dead code is linked here, because rustc 1.63 lets the linker drop the reference with it; Cargo does not come so far, for the build script
+# stops before.
 check_layout() {
-    if (build src/lib.rs other/modules --crate-name clomaverift --test "${std[@]}" -L "native=$out/other" -lstatic=clomaverift) >"$out/said" 2>&1; then
+    local words=(--test "${std[@]}" -C link-dead-code -L "native=$out/other" -lstatic=clomaverift)
+    if (build src/lib.rs other/modules --crate-name clomaverift "${words[@]}") >"$out/said" 2>&1; then
         fail "the crate links with a library of another layout"
     fi
     grep -q "undefined reference to .cmv_abi_$abi'" "$out/said" || { cat "$out/said" && fail "it does not link, for another reason"; }
