@@ -14,7 +14,42 @@ fail() {
     exit 1
 }
 
+# The comment at the top of the script that runs, which is its help: usage and, after a colon, what it does.
+help_text() { sed -n '2,${/^#/!q;s/^# \{0,1\}//p}' "$0"; }
+
+wrong_usage() { # SENTENCE
+    echo "$(basename "$0"): $*" >&2
+    echo "usage: $(help_text | sed '1s/ : .*//;1q'); --help says more" >&2
+    exit 2
+}
+
+# Ends a run that has two options or one that is not among OPTIONS, or more than so many other words.
+takes() { # OPTIONS MOST WORDS..
+    local word options=0 others=0
+    for word in "${@:3}"; do
+        case $word in
+        -*)
+            [[ " $1 " = *" $word "* ]] || wrong_usage "there is no option $word"
+            options=$((options + 1))
+            ;;
+        *) others=$((others + 1)) ;;
+        esac
+    done
+    [ "$options" -le 1 ] || wrong_usage "these options do not go together"
+    [ "$others" -le "$2" ] || wrong_usage "too many words"
+}
+
+# A script that sources this file lends it its words: so every script has --help.
+if [ "${1:-}" = --help ]; then
+    help_text
+    exit 0
+fi
+
 on_x86() { [ "$(uname -m)" = x86_64 ]; }
+
+need_python() {
+    type -P python3 >/dev/null || "$top/tools/setup" python3 || fail "python3 is missing"
+}
 
 # The folder of the Rattle toolchain, and a program of it for this machine.
 kit() { dirname "$(dirname "$(rt doc)")"; }
