@@ -9,6 +9,8 @@ library=$target/library/libclomaverift.a # the library, which tools/library make
 abi=1                                    # of its layout: raised if an entry's signature, a row or a number changes its meaning
 triple=x86_64-unknown-linux-gnu          # what the library is compiled for
 
+toolchain='logic 064da1ca440f63e7' # what `rt version` has to end with; README.md names it for the reader
+
 fail() {
     echo "$(basename "$0"): $*" >&2
     exit 1
@@ -47,6 +49,19 @@ fi
 
 on_x86() { [ "$(uname -m)" = x86_64 ]; }
 
+# Whether the toolchain is the one that the project is proved with; a warning where it is not.
+is_pinned() {
+    local version
+    version=$(rt version)
+    [[ $version = *"$toolchain" ]] && return
+    echo "$(basename "$0"): warning: 'rt version' says '$version'; README.md asks for '$toolchain'" >&2
+    return 1
+}
+
+need_rt() {
+    type -P rt >/dev/null || fail "rt is missing: install the Rattle toolchain that README.md names and put rt on PATH"
+}
+
 need_python() {
     type -P python3 >/dev/null || "$top/tools/setup" python3 || fail "python3 is missing"
 }
@@ -84,6 +99,8 @@ declare -A proved=() # the crates and archives that this run has proved
 
 # Says what is proved now, in how many steps, which are crates and archives, and how many minutes that takes from nothing.
 announce_proofs() { # WHAT STEPS MINUTES
+    need_rt
+    is_pinned || true
     proofs=$2
     echo "$(basename "$0"): proving $1, in $2 steps: about $3 minutes on two cores, less where some are proved" >&2
 }
@@ -174,6 +191,7 @@ need_rust() { # NAME RUSTC-WORDS..
 link_rust() { # NAME PROGRAM LIBRARY..
     local linker=cc
     on_x86 || linker=x86_64-linux-gnu-gcc
+    type -P "$linker" >/dev/null || fail "the linker $linker is missing: run tools/setup"
     "$linker" -Wl,--gc-sections -o "$2" "$target/$1/lib$1.a" "${@:3}" || fail "rust/$1 cannot be linked with the library"
 }
 
@@ -184,6 +202,7 @@ run_x86() { # PROGRAM WORDS..
         "$@"
         return
     fi
+    need_rt
     tools=$(kit)/on/$(uname -m)/toolchain
     "$tools/bin/qemu-x86_64" "$tools/lib/ld-linux-x86-64.so.2" --library-path "$tools/lib" "$@"
 }
