@@ -1,7 +1,8 @@
 #!/usr/bin/env bash
-# rust/cmv/test.sh : runs each sub-command of cmv on the sample, on a multiplex made from it, on noise, on an empty file, on a folder, into
-# a pipe that is closed and onto a full device, and holds its output, sentences and exit status against what is stored in tests/.
-# rust/cmv/test.sh --store stores what the program prints now.
+# rust/cmv/test.sh [--store] : runs each sub-command of cmv on the sample, on a multiplex made from it, on noise, on an empty file, on a folder, into
+# a pipe that is closed and onto a full device, and holds its output, sentences and exit status against what is stored in tests/. The
+# program is built first, if need be.
+#   --store  store what the program prints now
 set -euo pipefail
 export LC_ALL=C
 # shellcheck source-path=SCRIPTDIR source=../../tools/common.sh
@@ -166,14 +167,25 @@ check_progress() {
     [ ! -s "$scratch/said" ] || fail "a progress bar that no terminal shows"
 }
 
+# Side by side, for on Arm most of the time is the emulator's start, and there is one for each run of the program.
+check_all() {
+    local name job jobs=() failed=0
+    for name in sample multiplex lost_units bad_input output_errors usage progress; do
+        (
+            scratch=$scratch/$name
+            mkdir "$scratch"
+            "check_$name"
+        ) &
+        jobs+=("$!")
+    done
+    for job in "${jobs[@]}"; do wait "$job" || failed=1; done
+    return "$failed"
+}
+
+takes --store 0 "$@"
 store=no
-[ "${1:-}" != --store ] || store=yes
+[ $# = 0 ] || store=yes
+need_python
 cmv --version >/dev/null
-check_sample
-check_multiplex
-check_lost_units
-check_bad_input
-check_output_errors
-check_usage
-check_progress
+check_all
 echo "cmv: as stored"
