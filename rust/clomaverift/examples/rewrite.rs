@@ -4,8 +4,7 @@
 //!
 //!     cargo run --example rewrite FILE
 
-use clomaverift::{Copyright, DataAlignment, OriginalOrCopy};
-use clomaverift::{Demux, Found, FoundUnit, Packet, PesHeader, PesParsedContents, Times, Unit};
+use clomaverift::{Demux, Found, FoundUnit, Packet, PesHeader, PesParsedContents, Unit};
 use std::collections::{BTreeMap, BTreeSet};
 use std::error::Error;
 use std::io::Write;
@@ -13,33 +12,10 @@ use std::io::Write;
 /// Longer bounded units do not fit their length field, and only video may do without.
 const LONGEST_BOUNDED: usize = 65_000;
 
-fn times_of(found: &FoundUnit<'_>) -> Times {
-    match (found.pts(), found.dts()) {
-        (Some(pts), Some(dts)) => Times::Both { pts: pts.value(), dts: dts.value() },
-        (Some(pts), None) => Times::Pts(pts.value()),
-        _ => Times::Untimed,
-    }
-}
-
 /// What follows the head of the unit that begins with this packet of the recording.
 fn contents_at(recording: &[u8], index: u64) -> Option<PesParsedContents<'_>> {
     let bytes = recording.chunks_exact(Packet::SIZE).nth(index.try_into().ok()?)?;
     PesHeader::from_bytes(Packet::try_new(bytes).ok()?.payload()?).ok()?.contents().parsed().ok()
-}
-
-/// The unit with these fields of its header.
-fn with_fields(unit: Unit, contents: &PesParsedContents<'_>) -> Unit {
-    let mut unit = unit
-        .priority(contents.pes_priority() == 1)
-        .alignment(contents.data_alignment_indicator() == DataAlignment::Aligned)
-        .copyright(contents.copyright() == Copyright::Undefined) // the bit is 1
-        .original(contents.original_or_copy() == OriginalOrCopy::Original);
-    unit.escr = contents.escr().ok().map(|clock| (clock.base(), clock.extension()));
-    unit.es_rate = contents.es_rate().ok().map(u32::from);
-    unit.trick_mode = contents.raw_trick_mode().ok();
-    unit.copy_info = contents.additional_copy_info().ok();
-    unit.crc = contents.previous_pes_packet_crc().ok();
-    unit
 }
 
 /// The units in their order, each PID with counters of its own.
@@ -54,11 +30,9 @@ impl Writer {
     fn unit(&mut self, found: &FoundUnit<'_>, contents: Option<PesParsedContents<'_>>) {
         let pid = u16::from(found.pid);
         let counter = self.counters.entry(pid).or_default();
-        let unit = Unit::new(pid, found.stream_id.number())
-            .counter(*counter)
-            .bounded(found.payload.len() <= LONGEST_BOUNDED)
-            .times(times_of(found));
-        let unit = contents.map_or(unit, |contents| with_fields(unit, &contents));
+        let unit =
+            Unit::new(pid, found.stream_id.number()).counter(*counter).bounded(found.payload.len() <= LONGEST_BOUNDED);
+        let unit = contents.map_or(unit, |contents| unit.fields_of(&contents));
         match unit.packets(found.payload) {
             Ok(packets) => {
                 *counter = (*counter + (packets.len() / Packet::SIZE % 16) as u8) % 16;

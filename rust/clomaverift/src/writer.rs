@@ -3,6 +3,7 @@
 use crate::error::Error;
 use crate::ffi;
 use crate::packet::{ClockRef, Packet};
+use crate::pes::{Copyright, DataAlignment, OriginalOrCopy, PesParsedContents};
 use alloc::vec;
 use alloc::vec::Vec;
 
@@ -192,6 +193,41 @@ impl Unit {
     #[must_use]
     pub fn crc(self, crc: u16) -> Unit {
         Unit { crc: Some(crc), ..self }
+    }
+
+    /// With the header fields of a unit that was read: bits, timestamps and optional fields. One that is absent there, or refused, is left
+    /// out.
+    ///
+    /// ```
+    /// use clomaverift::{Packet, PesHeader, Unit};
+    ///
+    /// let unit = Unit::new(0x100, 0xE0).pts_dts(97_200, 90_000).aligned().es_rate(5_000);
+    /// let packets = unit.packets(&[7; 100])?;
+    /// let header = PesHeader::from_bytes(Packet::try_new(&packets)?.payload().unwrap())?;
+    /// assert_eq!(Unit::new(0x100, 0xE0).fields_of(&header.contents().parsed()?), unit);
+    /// # Ok::<(), clomaverift::Error>(())
+    /// ```
+    #[must_use]
+    pub fn fields_of(self, contents: &PesParsedContents<'_>) -> Unit {
+        let times = contents.pts_dts().ok();
+        let (pts, dts) = (times.and_then(|times| times.pts()), times.and_then(|times| times.dts()));
+        Unit {
+            priority: contents.pes_priority() == 1,
+            alignment: contents.data_alignment_indicator() == DataAlignment::Aligned,
+            copyright: contents.copyright() == Copyright::Undefined, // the bit is 1
+            original: contents.original_or_copy() == OriginalOrCopy::Original,
+            times: match (pts, dts) {
+                (Some(pts), Some(dts)) => Times::Both { pts: pts.value(), dts: dts.value() },
+                (Some(pts), None) => Times::Pts(pts.value()),
+                _ => Times::Untimed,
+            },
+            escr: contents.escr().ok().map(|clock| (clock.base(), clock.extension())),
+            es_rate: contents.es_rate().ok().map(u32::from),
+            trick_mode: contents.raw_trick_mode().ok(),
+            copy_info: contents.additional_copy_info().ok(),
+            crc: contents.previous_pes_packet_crc().ok(),
+            ..self
+        }
     }
 
     /// The unit's packets, in memory of their own.

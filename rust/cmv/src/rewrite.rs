@@ -4,8 +4,7 @@ use crate::input::Failure;
 use crate::losses::Losses;
 use crate::options::Options;
 use crate::table::standard_output;
-use clomaverift::{Copyright, DataAlignment, OriginalOrCopy};
-use clomaverift::{Error, Found, FoundUnit, Packet, PesHeader, PesLength, PesParsedContents, Times, Unit};
+use clomaverift::{Error, Found, FoundUnit, Packet, PesHeader, PesLength, Unit};
 use std::io::Write;
 
 /// The units so far.
@@ -47,28 +46,7 @@ fn unit_of(pid: u16, header: &PesHeader<'_>) -> Unit {
     // Only video may do without a length.
     let unbounded = header.pes_packet_length() == PesLength::Unbounded && id.video().is_some();
     let unit = Unit::new(pid, id.number()).bounded(!unbounded);
-    header.contents().parsed().map_or(unit, |contents| with_fields(unit, &contents))
-}
-
-fn with_fields(unit: Unit, contents: &PesParsedContents<'_>) -> Unit {
-    let times = contents.pts_dts().ok();
-    let (pts, dts) = (times.and_then(|times| times.pts()), times.and_then(|times| times.dts()));
-    let mut unit = unit
-        .priority(contents.pes_priority() == 1)
-        .alignment(contents.data_alignment_indicator() == DataAlignment::Aligned)
-        .copyright(contents.copyright() == Copyright::Undefined) // the bit is 1
-        .original(contents.original_or_copy() == OriginalOrCopy::Original)
-        .times(match (pts, dts) {
-            (Some(pts), Some(dts)) => Times::Both { pts: pts.value(), dts: dts.value() },
-            (Some(pts), None) => Times::Pts(pts.value()),
-            _ => Times::Untimed,
-        });
-    unit.escr = contents.escr().ok().map(|clock| (clock.base(), clock.extension()));
-    unit.es_rate = contents.es_rate().ok().map(u32::from);
-    unit.trick_mode = contents.raw_trick_mode().ok();
-    unit.copy_info = contents.additional_copy_info().ok();
-    unit.crc = contents.previous_pes_packet_crc().ok();
-    unit
+    header.contents().parsed().map_or(unit, |contents| unit.fields_of(&contents))
 }
 
 pub fn run(options: Options) -> Result<(), Failure> {
