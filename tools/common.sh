@@ -64,6 +64,7 @@ need_rt() {
 
 need_python() {
     type -P python3 >/dev/null || "$top/tools/setup" python3 || fail "python3 is missing"
+    type -P python3 >/dev/null || fail "python3 is missing from PATH"
 }
 
 # The folder of the Rattle toolchain, and a program of it for this machine.
