@@ -80,7 +80,7 @@ pub enum Found<'a> {
         /// The clock reference.
         pcr: ClockRef,
     },
-    /// A packet that is marked as damaged or as scrambled was dropped. This is reported on demand: [`Marked::Report`].
+    /// A packet that is marked as damaged or as scrambled was dropped. Only [`Marked::Report`] has this reported.
     #[non_exhaustive]
     Dropped {
         /// The PID.
@@ -117,7 +117,7 @@ pub struct FoundUnit<'a> {
     pub times: Result<PtsDts, Error>,
     /// All payload bytes after the header.
     pub payload: &'a [u8],
-    /// Whether the unit ended with the begin of another, and not with the recording.
+    /// Whether a later packet with the start flag ended the unit. Otherwise the recording ended first.
     pub ended: bool,
 }
 
@@ -243,7 +243,7 @@ impl fmt::Debug for Demux {
 }
 
 impl Demux {
-    /// Of every PID but that of stuffing; marked packets are dropped; of units of up to 16 MiB, and 64 MiB in all.
+    /// For every PID except that of stuffing. Marked packets are dropped; a unit has at most 16 MiB, and all stores together 64 MiB.
     #[must_use]
     pub fn new() -> Demux {
         let mut slots = vec![NEW; Pid::PID_COUNT];
@@ -252,7 +252,7 @@ impl Demux {
         Demux { slots, streams, marked, unit: UNIT, memory: MEMORY, held: 0, free_again: 0, index: 0 }
     }
 
-    /// Of these PIDs alone, also of the stuffing PID if it is among them. What was open before is forgotten.
+    /// For these PIDs alone, with the stuffing PID if it is among them. What was open before is forgotten.
     ///
     /// ```
     /// use clomaverift::{Demux, Found, Pid, Unit};
@@ -288,13 +288,13 @@ impl Demux {
         Demux { marked, ..self }
     }
 
-    /// With units of up to so many bytes.
+    /// With at most so many bytes for a unit.
     #[must_use]
     pub fn at_most(self, bytes: usize) -> Demux {
         Demux { unit: bytes, ..self }
     }
 
-    /// With stores of up to so many bytes, all PIDs together.
+    /// With at most so many bytes for the stores of all PIDs together.
     ///
     /// ```
     /// use clomaverift::{Demux, Found, Unit};
@@ -425,7 +425,7 @@ impl Demux {
         self.memory.saturating_sub(self.held - self.streams[slot].store.len())
     }
 
-    /// Tells the units that are still open, by PID: no packet says that they have ended.
+    /// Reports the units that are still open, by PID, because no packet has ended them.
     pub fn finish(mut self, mut tell: impl FnMut(Found<'_>)) {
         self.streams.sort_by_key(|stream| stream.pid);
         self.streams.iter_mut().for_each(|stream| stream.finish(&mut tell));

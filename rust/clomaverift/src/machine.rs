@@ -12,13 +12,13 @@ const NO_COUNTER: u64 = 255;
 /// The bytes of a log entry.
 pub(crate) const ENTRY: usize = 8;
 
-/// Where a machine is.
+/// The phase of a machine.
 #[derive(Clone, Copy, Debug, PartialEq, Eq, Hash)]
 #[non_exhaustive]
 pub enum Phase {
     /// No packet with the start flag was seen.
     Begin,
-    /// One was.
+    /// A packet with the start flag was seen.
     Started,
     /// There was a continuity error, and no packet with the start flag since.
     IgnoreRest,
@@ -26,7 +26,7 @@ pub enum Phase {
 
 /// The event machine of one PID's packets: what mpeg2ts-reader's `PesPacketFilter` tells its consumer is written to a log here.
 ///
-/// A log is the caller's: any slice, 8 bytes an event. A packet has at most two events, so 16 bytes are room for one packet.
+/// The caller keeps the log: any slice, 8 bytes for each event. A packet has at most two events, so 16 bytes are enough for it.
 ///
 /// ```
 /// use clomaverift::{EventKind, Machine};
@@ -331,7 +331,7 @@ pub struct Events<'log> {
 }
 
 impl<'log> Events<'log> {
-    /// Of all the bytes. For the events that a machine has written, [`Machine::events`].
+    /// Over all of these bytes. For the events that a machine has written there is [`Machine::events`].
     #[inline]
     pub fn new(log: &'log [u8]) -> Events<'log> {
         Events { log, at: 0 }

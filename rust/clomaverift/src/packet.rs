@@ -44,7 +44,7 @@ pub struct AdaptationControl {
 }
 
 impl AdaptationControl {
-    /// Of the fourth byte of a packet. Two of its bits count.
+    /// From the fourth byte of a packet, of which two bits count.
     ///
     /// ```
     /// let control = clomaverift::AdaptationControl::new(0x1C);
@@ -83,7 +83,7 @@ pub struct TransportScramblingControl {
 }
 
 impl TransportScramblingControl {
-    /// Of the fourth byte of a packet. Two of its bits count.
+    /// From the fourth byte of a packet, of which two bits count.
     ///
     /// ```
     /// let control = clomaverift::TransportScramblingControl::from_byte_four(0x90);
@@ -137,13 +137,13 @@ pub struct ClockRef {
 }
 
 impl ClockRef {
-    /// How many ticks of its number a second has.
+    /// Ticks a second: 27,000,000.
     pub const TIMEBASE: u64 = 300 * Timestamp::TIMEBASE;
 
     /// How many ticks it has before it wraps: 2^33 × 300.
     const TICKS: u64 = 300 << 33;
 
-    /// Of the first 6 bytes of a slice.
+    /// Reads the first 6 bytes of a slice.
     ///
     /// # Errors
     ///
@@ -153,7 +153,7 @@ impl ClockRef {
         ffi::clock_ref_from_slice(data).map(ClockRef::of)
     }
 
-    /// Of its two parts.
+    /// Made from its two parts.
     ///
     /// # Errors
     ///
@@ -182,7 +182,7 @@ impl ClockRef {
         self.extension
     }
 
-    /// The ticks from `earlier` to `self` at 27 MHz, over a wrap too: the difference modulo 2^33 × 300.
+    /// The ticks from `earlier` to `self` at 27 MHz, modulo 2^33 × 300, so that a wrap between the two does not matter.
     ///
     /// ```
     /// use clomaverift::ClockRef;
@@ -370,7 +370,7 @@ impl Pid {
     /// The PID of the transport stream description table.
     pub const TSDT: Pid = Pid(2);
 
-    /// The PID of packets without content, called null packets too.
+    /// The PID of packets without content, also called null packets.
     pub const STUFFING: Pid = Pid(Pid::MAX_VALUE);
 
     /// The PID of this number.
@@ -515,7 +515,7 @@ impl<'buf> Packet<'buf> {
         flag(sure(ffi::packet_transport_priority(self.buf)))
     }
 
-    /// The stream that the packet is of.
+    /// The PID of the packet.
     #[must_use]
     #[inline]
     pub fn pid(&self) -> Pid {
@@ -654,7 +654,7 @@ pub struct Packets<'buf> {
 }
 
 impl<'buf> Packets<'buf> {
-    /// Of all the bytes.
+    /// Over all of these bytes.
     #[inline]
     pub fn new(bytes: &'buf [u8]) -> Packets<'buf> {
         Packets { chunks: bytes.chunks(Packet::SIZE) }
@@ -701,7 +701,7 @@ pub struct PacketFields<'buf> {
     pub payload_unit_start_indicator: bool,
     /// Whether the packet has priority over others of its PID.
     pub transport_priority: bool,
-    /// The stream that the packet is of.
+    /// The PID of the packet.
     pub pid: Pid,
     /// The continuity counter.
     pub continuity_counter: ContinuityCounter,

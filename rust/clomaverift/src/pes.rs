@@ -97,14 +97,14 @@ impl StreamId {
         self.kind | self.low
     }
 
-    /// Of an audio stream, its number: the low five bits of the id.
+    /// The number of an audio stream, which is the low five bits of the id; `None` for any other stream.
     #[must_use]
     #[inline]
     pub fn audio(&self) -> Option<u8> {
         (self.kind == AUDIO).then_some(self.low)
     }
 
-    /// Of a video stream, its number: the low five bits of the id.
+    /// The number of a video stream, which is the low five bits of the id; `None` for any other stream.
     #[must_use]
     #[inline]
     pub fn video(&self) -> Option<u8> {
@@ -182,7 +182,7 @@ impl<'buf> PesHeader<'buf> {
         Ok(PesHeader { buf })
     }
 
-    /// What kind of stream the packet is of.
+    /// The stream id.
     #[must_use]
     #[inline]
     pub fn stream_id(&self) -> StreamId {
@@ -309,13 +309,13 @@ impl DsmTrickMode {
 /// Which coefficients a picture of a trick mode has.
 #[derive(Clone, Copy, Debug, PartialEq, Eq, Hash)]
 pub enum FrequencyTruncationCoefficientSelection {
-    /// The DC coefficient alone is other than zero.
+    /// Only the DC coefficient may be other than zero.
     DCNonZero,
-    /// The first three coefficients alone.
+    /// Only the first three coefficients may be other than zero.
     FirstThreeNonZero,
-    /// The first six coefficients alone.
+    /// Only the first six coefficients may be other than zero.
     FirstSixNonZero,
-    /// All coefficients may be.
+    /// All coefficients may be other than zero.
     AllMaybeNonZero,
 }
 
@@ -685,7 +685,7 @@ pub struct PesFields<'buf> {
     pub payload: &'buf [u8],
 }
 
-/// A timestamp of 33 bits, at 90 kHz. Its order is that of its number: it does not see a wrap, [`Timestamp::since`] does.
+/// A timestamp of 33 bits, at 90 kHz. It is ordered by its number, without regard to a wrap; [`Timestamp::since`] takes a wrap into account.
 ///
 /// ```
 /// use clomaverift::{Error, Timestamp};
@@ -764,7 +764,7 @@ impl Timestamp {
         self.val
     }
 
-    /// The ticks from `earlier` to `self`, over a wrap too: the difference modulo 2^33.
+    /// The ticks from `earlier` to `self`, modulo 2^33, so that a wrap between the two does not matter.
     ///
     /// ```
     /// use clomaverift::Timestamp;
