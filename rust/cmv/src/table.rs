@@ -1,7 +1,6 @@
 //! Printing rows: as text in columns, as comma-separated values, as JSON.
 
 use clomaverift::{ClockRef, Pid, Timestamp};
-use serde_json::Value;
 use std::io::{self, BufWriter, Stdout, Write};
 
 #[derive(Clone, Copy, PartialEq, Eq)]
@@ -56,13 +55,13 @@ impl Cell {
         }
     }
 
-    fn json(self) -> Value {
+    /// No word here has a character that JSON escapes.
+    fn json(self) -> String {
         match self {
-            Cell::Nothing => Value::Null,
-            Cell::Number(number) => number.into(),
-            Cell::Pid(pid) => u16::from(pid).into(),
-            Cell::Word(word) => word.into(),
-            Cell::Seconds(seconds, _) => seconds.into(),
+            Cell::Nothing => "null".to_string(),
+            Cell::Word(word) => format!("\"{word}\""),
+            Cell::Seconds(seconds, _) => format!("{seconds:?}"), // all digits
+            other => other.csv(),
         }
     }
 }
