@@ -54,6 +54,7 @@ mod reading;
 mod record;
 mod rng;
 mod rules;
+mod side_by_side;
 mod slice;
 mod stream;
 mod tally;
@@ -66,7 +67,7 @@ mod written;
 use module::{Module, Plan};
 use record::Sample;
 use std::path::Path;
-use std::time::Instant;
+use std::time::{Duration, Instant};
 use tally::{grouped, report, total, Tally};
 
 /// The modules, in the order of their codes.
@@ -140,20 +141,41 @@ fn options(words: &[String]) -> Option<Options> {
 fn compare(options: &Options) -> bool {
     println!("differential: seed {}", options.seed);
     let began = Instant::now();
-    let chosen = MODULES.iter().filter(|module| options.only.map_or(true, |name| name == module.name));
-    let tallies: Vec<Vec<Tally>> = chosen.map(|module| compare_module(module, options)).collect();
-    total("differential", began, tallies.iter().flatten());
+    let chosen: Vec<&Module> =
+        MODULES.iter().filter(|module| options.only.map_or(true, |name| name == module.name)).collect();
+    let mut tallies: Vec<Vec<Tally>> = Vec::new();
+    side_by_side::each(
+        &chosen,
+        |module| compare_module(module, options),
+        |module, compared| {
+            compared.print(module);
+            tallies.push(compared.tallies);
+        },
+    );
+    total("differential", began.elapsed(), tallies.iter().flatten());
     tallies.iter().all(|module| !module.is_empty() && module.iter().all(Tally::passed))
 }
 
-/// Compares one module, and prints a line for each function and one for all.
-fn compare_module(module: &Module, options: &Options) -> Vec<Tally> {
+/// What came of one module, and how long it took.
+struct Compared {
+    random: u64,
+    taken: Duration,
+    tallies: Vec<Tally>,
+}
+
+impl Compared {
+    /// A line for each function and one for all.
+    fn print(&self, module: &Module) {
+        println!("{}: {} random answers, beside what is always compared", module.name, grouped(self.random));
+        report(module.name, self.taken, &self.tallies);
+    }
+}
+
+fn compare_module(module: &Module, options: &Options) -> Compared {
     let began = Instant::now();
     let plan = Plan { count: options.count.unwrap_or(module.count * options.times), seed: options.seed };
-    println!("{}: {} random answers, beside what is always compared", module.name, grouped(plan.count));
     let tallies = (module.compare)(&plan);
-    report(module.name, began, &tallies);
-    tallies
+    Compared { random: plan.count, taken: began.elapsed(), tallies }
 }
 
 /// Where something differs: it is printed, and the comparison goes on.
