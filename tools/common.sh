@@ -113,19 +113,29 @@ count_proof() { # NAME SECONDS
     [[ $2 = unchanged* ]] || printf '%4d of %d  %s, %s\n' "${#proved[@]}" "$proofs" "$1" "$2" >&2
 }
 
-# Runs rt. What it says goes to a log, which is named if it fails; a line is shown for each crate and archive.
-prove() { # RT-WORDS..
-    local line log=$target/prove.log began=$SECONDS
+# Has rt prove crates. What it says goes to a log, which is named if it fails; a line is shown for each crate.
+prove() { # CRATE..
+    local line log=$target/prove.log
     mkdir -p "$target"
     while IFS= read -r line; do
         echo "$line"
-        if [[ $line =~ ^rt:\ ([a-z_]+)\ proved\ \((.*)\)$ ]]; then
-            count_proof "${BASH_REMATCH[@]:1}"
-        elif [[ $line =~ ^rt:\ target/staticlib/([a-z_]+\.a)\  ]]; then
-            count_proof "${BASH_REMATCH[1]}" "$((SECONDS - began)) s"
-        fi
-    done < <(cd "$top" && rt "$@" 2>&1) >"$log"
-    wait $! || fail "'rt $*' failed; $log has what it said"
+        [[ ! $line =~ ^rt:\ ([a-z_]+)\ proved\ \((.*)\)$ ]] || count_proof "${BASH_REMATCH[@]:1}"
+    done < <(cd "$top" && rt check "$@" 2>&1) >"$log"
+    wait $! || fail "'rt check $*' failed; $log has what it said"
+}
+
+# Has rt build archives, side by side: it checks the crate of each once more, on one core.
+prove_archives() { # CRATE..
+    local part began=$SECONDS
+    local -A jobs=()
+    for part in "$@"; do
+        (cd "$top" && rt staticlib "$part") >"$target/prove.$part.log" 2>&1 &
+        jobs[$part]=$!
+    done
+    for part in "$@"; do
+        wait "${jobs[$part]}" || fail "'rt staticlib $part' failed; $target/prove.$part.log has what it said"
+        count_proof "lib$part.a" "$((SECONDS - began)) s"
+    done
 }
 
 # ---- Rust over the library.
