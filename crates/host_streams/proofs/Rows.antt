@@ -21,14 +21,11 @@ use Rattle.host.specs.Reports.{Reports}
 use Rattle.host.proofs.Laws.{reports, reports-as, reports-of, host-laws}
 use Rattle.machine.proofs.Laws.{step-length, step-sync, step-state, run-length, run-state}
 use Rattle.writer.specs.declared.Route.{Route}
-use Rattle.writer.specs.declared.Times.{Times}
-use Rattle.writer.specs.declared.Escr.{Escr}
-use Rattle.writer.specs.declared.Rate.{Rate}
-use Rattle.writer.specs.declared.Byte.{Byte}
-use Rattle.writer.specs.declared.Crc.{Crc}
 use Rattle.writer.specs.declared.Unit.{Unit as WrittenUnit}
 use Rattle.writer.specs.declared.Written.{Written}
+use Rattle.writer.specs.declared.row.RowRead as writer-row
 use Rattle.writer.specs.Writer.{givenWritten, writeOf, outputOf}
+use Rattle.writer.specs.Row.{unitOf, writeBy, outputBy, rowWriteOf, rowOutputOf}
 use Rattle.gather.specs.declared.Lies.{Lies}
 use Rattle.gather.specs.declared.Gathering.{Gathering}
 use Rattle.gather.specs.declared.HeldRead.{HeldRead}
@@ -138,34 +135,29 @@ module _ (r : gather-row.RowRead) (xs p s : List ℕ) (of : r ≡ store.gatherin
 
 -- ---- the writer
 
-abbrev made : ℕ → Bool → Bool → Bool → Bool → Bool → Times → Escr → Rate → Byte → Byte → Crc → WrittenUnit
-made i b p a c o t e r k y s = record {
-  id = i;
-  bounded = b;
-  priority = p;
-  alignment = a;
-  copyright = c;
-  original = o;
-  times = t;
-  escr = e;
-  rate = r;
-  trick = k;
-  copy = y;
-  crc = s;
-}
+module _ (r : writer-row.RowRead) (q : Route) (w xs ys : List ℕ) (of : r ≡ unitOf w) where
+  written-by : writeBy r q xs ys ≡ rowWriteOf q w xs ys
+  unfolding rowWriteOf
+  written-by = ap (λ (t : writer-row.RowRead). writeBy t q xs ys) of
 
--- a unit of the fields that calls give is that of the fields that they ensure
-module _ (q : Route) (i : ℕ) (b p a c o : Bool) (t t′ : Times) (e e′ : Escr) (r r′ : Rate) (k k′ y y′ : Byte) (s s′ : Crc) (xs ys : List ℕ)
-    (et : t ≡ t′) (ee : e ≡ e′) (er : r ≡ r′) (ek : k ≡ k′) (ey : y ≡ y′) (es : s ≡ s′) where
-  same : made i b p a c o t e r k y s ≡ made i b p a c o t′ e′ r′ k′ y′ s′
-  same = rw (et, ee, er, ek, ey, es)
+  output-by : outputBy r q xs ys ≡ rowOutputOf q w xs ys
+  unfolding rowOutputOf
+  output-by = ap (λ (t : writer-row.RowRead). outputBy t q xs ys) of
 
-  pub written-reports : (w v : Written) (n : ℕ) (lent left : List ℕ) → givenWritten w ≡ writeOf q (made i b p a c o t e r k y s) xs ys → w ≡ v
-      → Reports (givenWritten v) n lent left → Reports (writeOf q (made i b p a c o t′ e′ r′ k′ y′ s′) xs ys) n lent left
-  written-reports w v n lent left g f h = reports-of givenWritten (g ∙ ap (λ (u : WrittenUnit). writeOf q u xs ys) same) f h
+  module _ (e : r ≡ writer-row.RowRead.Stray) where
+    pub write-strayed : {lent : List ℕ} → Reports (rowWriteOf q w xs ys) 14 lent lent
+    write-strayed = reports-as (ap (λ (t : writer-row.RowRead). writeBy t q xs ys) (sym e) ∙ written-by) (reports refl refl)
 
-  pub written-output : (zs : List ℕ) → zs ≡ outputOf q (made i b p a c o t e r k y s) xs ys → zs ≡ outputOf q (made i b p a c o t′ e′ r′ k′ y′ s′) xs ys
-  written-output zs g = g ∙ ap (λ (u : WrittenUnit). outputOf q u xs ys) same
+    pub output-strayed : ys ≡ rowOutputOf q w xs ys
+    output-strayed = ap (λ (t : writer-row.RowRead). outputBy t q xs ys) (sym e) ∙ output-by
+
+  module _ (u : WrittenUnit) (e : r ≡ writer-row.RowRead.Is u) where
+    pub written-reports : (a v : Written) (n : ℕ) (lent left : List ℕ) → givenWritten a ≡ writeOf q u xs ys → a ≡ v → Reports (givenWritten v) n lent left
+        → Reports (rowWriteOf q w xs ys) n lent left
+    written-reports a v n lent left g f h = reports-of givenWritten (g ∙ (ap (λ (t : writer-row.RowRead). writeBy t q xs ys) (sym e) ∙ written-by)) f h
+
+    pub written-output : (zs : List ℕ) → zs ≡ outputOf q u xs ys → zs ≡ rowOutputOf q w xs ys
+    written-output zs g = g ∙ (ap (λ (t : writer-row.RowRead). outputBy t q xs ys) (sym e) ∙ output-by)
 
 -- ---- what `search` is given: for a number that chooses, for a row that stands for nothing, and for each entry
 
@@ -181,4 +173,4 @@ pub ruleset gathered-laws = (gather-moves, gather-stays, gather-strayed, needs)
 
 pub ruleset held-laws = (held-in-packet, held-in-store, held-reports, held-strayed, host-laws)
 
-pub ruleset written-laws = (written-reports, written-output, host-laws)
+pub ruleset written-laws = (written-reports, written-output, write-strayed, output-strayed, host-laws)

@@ -5,6 +5,10 @@ use mathlib.Core.List.{List}
 use Prim.Native.Nat.{ℕ}
 use Rattle.machine.specs.Row.{RowStep, rowStep, RowRun, rowRun}
 use Rattle.gather.specs.Row.{RowGather, rowGather}
+use Rattle.writer.specs.declared.Route.{Route}
+use Rattle.writer.specs.Row.{rowWriteOf, rowOutputOf}
+use Rattle.host.specs.Reports.{Reports}
+use Rattle.host.proofs.Theorems.{one-report}
 
 -- a step over a row, and a run: the word, the numbers left and the log
 pub one-step : (o : RowStep) (v w : ℕ) (x y l k : List ℕ) → rowStep v x l ≡ o → rowStep w y k ≡ o → (v ≡ w) × (x ≡ y) × (l ≡ k)
@@ -28,3 +32,11 @@ pub one-gathered : (o : RowGather) (v w : ℕ) (x y s t : List ℕ) → rowGathe
 one-gathered o v w x y s t g h =
     let e : rowGather v x s ≡ rowGather w y t = g ∙ sym h in
     (ap (λ (r : RowGather). r .number) e, ap (λ (r : RowGather). r .row) e, ap (λ (r : RowGather). r .store) e)
+
+-- a unit written: the word, the count and the output
+pub one-written : (r : Route) (unit payload out lent : List ℕ) (v w : ℕ) (l k x y : List ℕ)
+    → Reports (rowWriteOf r unit payload out) v lent l × (x ≡ rowOutputOf r unit payload out)
+    → Reports (rowWriteOf r unit payload out) w lent k × (y ≡ rowOutputOf r unit payload out) → (v ≡ w) × (l ≡ k) × (x ≡ y)
+one-written r unit payload out lent v w l k x y g h =
+    let e = one-report (rowWriteOf r unit payload out) lent v w l k (g .0) (h .0) in
+    (e .0, e .1, g .1 ∙ sym (h .1))

@@ -1,3 +1,4 @@
 pub mod Unit
 pub mod Packets
 pub mod Writer
+pub mod Row

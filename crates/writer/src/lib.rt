@@ -20,6 +20,8 @@ use bits::copy_at;
 use bits::wide;
 use pes::StreamId;
 
+pub mod row;
+
 // What the units of a list share: the PID, and the counter of the first packet.
 pub struct Route {
     pub pid: u16,

@@ -1,0 +1,9 @@
+use Rattle.writer.proofs.Rows.{row-laws}
+use Rattle.writer.proofs.row.times_in.Statement.{statement}
+use Rattle.writer.proofs.row.times_in.Tie as tie
+
+pub times-in-spec : {M : Type 1} → statement M
+times-in-spec {M} =
+    let answers = tie.spec {M = M} (λ c. search row-laws) (λ c. search row-laws) (λ c. search row-laws) (λ c. search row-laws)
+    (λ c. search row-laws) (λ c. search row-laws) (λ c. search row-laws) in
+    tie.close answers
