@@ -12,7 +12,7 @@ use Rattle.bits.specs.Answer.{Answer, answer, pick, firstOf, other}
 use Rattle.machine.specs.declared.Machine.{Machine}
 use Rattle.machine.specs.declared.row.RowRead.{RowRead}
 use Rattle.machine.specs.declared.row.RowRead.the-variants.{Is, Stray}
-use Rattle.machine.specs.Step.{notTaken, Outcome, stepOf, logOf}
+use Rattle.machine.specs.Step.{fresh, notTaken, Outcome, stepOf, logOf}
 use Rattle.machine.specs.Run.{notRun, Reported, reportOf, ranLog}
 use Rattle.machine.proofs.Rows.{stray-number}
 use Rattle.machine.specs.Row.{machineOf, rowOf, stepBy, rowStep, rowStepOf, runBy, rowRun, rowRunOf}
@@ -159,6 +159,14 @@ module _ (r : writer-row.RowRead) (q : Route) (w xs ys : List ℕ) (of : r ≡ u
     pub written-output : (zs : List ℕ) → zs ≡ outputOf q u xs ys → zs ≡ rowOutputOf q w xs ys
     written-output zs g = g ∙ (ap (λ (t : writer-row.RowRead). outputBy t q xs ys) (sym e) ∙ output-by)
 
+-- ---- the rows of the states before the first packet
+
+pub machine-fresh : (m : Machine) (xs : List ℕ) → m ≡ fresh → xs ≡ rowOf m → xs ≡ rowOf fresh
+machine-fresh m xs e f = f ∙ ap rowOf e
+
+pub gather-fresh : (g : Gathering) (xs : List ℕ) → g ≡ gather.emptied → xs ≡ store.gatheringRow g → xs ≡ store.gatheringRow gather.emptied
+gather-fresh g xs e f = f ∙ ap store.gatheringRow e
+
 -- ---- what `search` is given: for a number that chooses, for a row that stands for nothing, and for each entry
 
 pub ruleset chosen-laws = (eq-eqb, ne-eqb, needs)
@@ -174,3 +182,5 @@ pub ruleset gathered-laws = (gather-moves, gather-stays, gather-strayed, needs)
 pub ruleset held-laws = (held-in-packet, held-in-store, held-reports, held-strayed, host-laws)
 
 pub ruleset written-laws = (written-reports, written-output, write-strayed, output-strayed, host-laws)
+
+pub ruleset fresh-laws = (machine-fresh, gather-fresh, needs)

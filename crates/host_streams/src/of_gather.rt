@@ -2,10 +2,11 @@
 ghost use mathlib.Core.Path.{_≡_};
 ghost use mathlib.Core.List.{[], _∷_};
 ghost use Rattle.log.specs.Entry.{event};
-ghost use Rattle.gather.specs.Gather.{storeNumber};
-ghost use Rattle.gather.specs.Row.{moves, rowGather, rowGatherOf, rowHeld};
+ghost use Rattle.gather.specs.Gather.{emptied, storeNumber};
+ghost use Rattle.gather.specs.Row.{gatheringRow, moves, rowGather, rowGatherOf, rowHeld};
 ghost use Rattle.host.specs.Reports.{Reports};
 use crate::strayed;
+use gather::Gathering;
 use gather::HeldRead;
 use gather::Lies;
 use gather::Verdict;
@@ -38,6 +39,14 @@ fn moves_state(number: u32) -> bool
         return true;
     }
     number == STORE_FULL
+}
+
+// The row of a state before its first event, with no unit (Gathering::new): 0, 0, 255
+#[no_mangle]
+pub extern "C" fn cmv_gather_fresh(state: &mut [u64; 3])
+    ensures { λ _. ⌜ now (state .exit) ≡ gatheringRow emptied ⌝ }
+{
+    row::write(Gathering::new(), state);
 }
 
 // gather::gather over a lent row, of an event by its kind, place and length. On 0 and on 20 the row of the next state is written, on any

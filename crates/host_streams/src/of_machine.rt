@@ -2,9 +2,9 @@
 ghost use mathlib.Core.Path.{_≡_};
 ghost use mathlib.Core.List.{[], _∷_};
 ghost use Rattle.log.specs.Entry.{readEntry};
-ghost use Rattle.machine.specs.Step.{verdictNumber};
+ghost use Rattle.machine.specs.Step.{fresh, verdictNumber};
 ghost use Rattle.host.specs.Reports.{Reports};
-ghost use Rattle.machine.specs.Row.{rowStep, rowStepOf, rowRun, rowRunOf};
+ghost use Rattle.machine.specs.Row.{rowOf, rowStep, rowStepOf, rowRun, rowRunOf};
 use crate::strayed;
 use host::numbers::DONE;
 use host::numbers::INDEX_FULL;
@@ -13,6 +13,7 @@ use host::numbers::NO_SYNC;
 use host::numbers::OUT_OF_RANGE;
 use host::numbers::WRONG_LENGTH;
 use log::EntryRead;
+use machine::Machine;
 use machine::Verdict;
 use machine::row;
 use machine::row::RowRead;
@@ -28,6 +29,14 @@ fn number_of(v: Verdict) -> u32
         Verdict::IndexFull => INDEX_FULL,
         Verdict::LogFull => LOG_FULL,
     }
+}
+
+// The row of a machine before its first packet, with an empty log (Machine::new): 0, 255, 0, 0
+#[no_mangle]
+pub extern "C" fn cmv_machine_fresh(state: &mut [u64; 4])
+    ensures { λ _. ⌜ now (state .exit) ≡ rowOf fresh ⌝ }
+{
+    row::write(Machine::new(), state);
 }
 
 // machine::step over a lent row
