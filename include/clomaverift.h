@@ -513,12 +513,12 @@ uint32_t cmv_control_constants(uint64_t *max, uint64_t *count);
 
 /* ---- The event machine and its log.
    A machine takes the packets of one PID in their order and writes events to a log: one state and one log for each PID. The caller keeps
-   the state as a row of numbers and lends it. A fresh state, before the first packet, is {0, 255, 0, 0}.
+   the state as a row of numbers and lends it.
    Refusals of the functions of this group:
    1: packet is not 188 bytes long.
    2: its first byte is not 47 hex. */
 
-/* The places of the row of cmv_machine_step, cmv_machine_run. */
+/* The places of the row of cmv_machine_fresh, cmv_machine_step, cmv_machine_run. */
 enum {
     CMV_MACHINE_PHASE = 0, /* 0 before the first start, 1 after a start, 2 after a break up to the next start */
     CMV_MACHINE_LAST = 1, /* the counter of the last packet, 255 if there is none */
@@ -539,6 +539,9 @@ enum {
     CMV_END_PACKET = 4, /* the unit before is over: the next start came */
     CMV_CONTINUITY_ERROR = 5 /* a break: up to the next start no payload is reported */
 };
+
+/* Writes the state before the first packet, with an empty log: {0, 255, 0, 0}. */
+void cmv_machine_fresh(uint64_t state[4]);
 
 /* Takes one packet. On 0 the state is the next one and the packet's events stand in the log from the old PLACE on.
    Refused with 1, 2, 14, 16, 15.
@@ -567,12 +570,12 @@ uint32_t cmv_log_entry_at(const uint8_t *log, size_t log_len, size_t at, uint64_
 
 /* ---- The gathering store.
    A gathering store joins the payload of a unit, without its header, from the events of one PID: one state and one store for each PID. The
-   caller keeps the state as a row of numbers and lends it. A fresh state, before the first event, is {0, 0, 255}.
+   caller keeps the state as a row of numbers and lends it.
    Refusals of the functions of this group:
    1: packet is not 188 bytes long.
    2: its first byte is not 47 hex. */
 
-/* The places of the row of cmv_gather, cmv_gather_bytes. */
+/* The places of the row of cmv_gather_fresh, cmv_gather, cmv_gather_bytes. */
 enum {
     CMV_GATHER_OPEN = 0, /* whether a unit is open */
     CMV_GATHER_COUNT = 1, /* the bytes of the unit so far */
@@ -582,6 +585,9 @@ enum {
 
 /* The bytes of the unit always stand at the start of the store, COUNT of them. After a begin they also lie in the packet, and LIES is
    their place there. */
+
+/* Writes the state before the first event: {0, 0, 255}. */
+void cmv_gather_fresh(uint64_t state[3]);
 
 /* Takes one event, by its kind, place and length as cmv_log_entry_at reports them, and the packet that it is an event of. A begin opens a
    unit with the payload of its PES packet; if the head or the contents are refused, with no bytes. A continue adds its bytes if a unit is
@@ -605,21 +611,46 @@ uint32_t cmv_gather_bytes(const uint64_t state[3], const uint8_t *packet, size_t
     uint64_t *slice, uint64_t *place, uint64_t *length);
 
 /* ---- The writer.
-   A flag is 0 for no and any other number for yes. If the flag of a field (escr_there, rate_there, trick_there, copy_there, crc_there)
-   is 0, its value is not looked at. times is 0 for none, 1 for a PTS alone, any other number for a PTS and a DTS. */
+   A unit is a PES packet. The caller lends all of it but its payload as a row of numbers. A flag is 0 for no and any other number for
+   yes. The value of a field whose flag is 0 is not looked at. */
 
-/* Writes a unit, that is a PES packet with this payload, as packets of one PID, the fewest that can carry it. counter is the continuity
-   counter of the first. On 0 count is the number of packets, and they stand at the start of out; what is after them is as it was.
-   Refused with 17, 18, 19.
-   17: pid is not 16 to 8190; counter is above 15; id is below BC hex or has a bare payload (cmv_pes_header_contents); the unit is not
-   bounded and id is not E0 to EF hex; pts, dts or escr_base is 2^33 or more; escr_extension is above 299; rate is 0 or 2^22 or more; copy
-   is above 127.
-   18: payload_len is above 65,536; the unit is bounded and PES_packet_length would be above 65,535.
+/* The places of the row of cmv_write. */
+enum {
+    CMV_UNIT_ID = 0, /* stream_id */
+    CMV_UNIT_BOUNDED = 1, /* a flag: PES_packet_length has the length of the unit, else 0 */
+    CMV_UNIT_PRIORITY = 2, /* a flag: PES_priority */
+    CMV_UNIT_ALIGNMENT = 3, /* a flag: data_alignment_indicator */
+    CMV_UNIT_COPYRIGHT = 4, /* a flag: the copyright bit */
+    CMV_UNIT_ORIGINAL = 5, /* a flag: original_or_copy */
+    CMV_UNIT_TIMES = 6, /* 0 none, 1 a PTS, 2 a PTS and a DTS */
+    CMV_UNIT_PTS = 7, /* 33 bits, looked at if TIMES is 1 or 2 */
+    CMV_UNIT_DTS = 8, /* 33 bits, looked at if TIMES is 2 */
+    CMV_UNIT_ESCR_THERE = 9, /* a flag */
+    CMV_UNIT_ESCR_BASE = 10, /* 33 bits */
+    CMV_UNIT_ESCR_EXTENSION = 11, /* 0 to 299 */
+    CMV_UNIT_RATE_THERE = 12, /* a flag */
+    CMV_UNIT_RATE = 13, /* ES_rate, 1 to 2^22 - 1 */
+    CMV_UNIT_TRICK_THERE = 14, /* a flag */
+    CMV_UNIT_TRICK = 15, /* the trick mode byte */
+    CMV_UNIT_COPY_INFO_THERE = 16, /* a flag */
+    CMV_UNIT_COPY_INFO = 17, /* additional_copy_info, 7 bits */
+    CMV_UNIT_CRC_THERE = 18, /* a flag */
+    CMV_UNIT_CRC = 19, /* previous_PES_packet_CRC, 16 bits */
+    CMV_UNIT_SIZE = 20 /* how many numbers the row has */
+};
+
+/* Writes a unit with this payload as packets of one PID, the fewest that can carry it. counter is the continuity counter of the first. On 0
+   count is the number of packets, and they stand at the start of out; what is after them is as it was.
+   Refused with 14, 17, 18, 19.
+   14: the row stands for no unit: ID above 255, TIMES above 2 or, in a field that is there, ESCR_EXTENSION or CRC above 65,535, RATE above
+   2^32 - 1, TRICK or COPY_INFO above 255.
+   17: pid is not 16 to 8190; counter is above 15; ID is below BC hex or has a bare payload (cmv_pes_header_contents); BOUNDED is 0 and ID
+   is not E0 to EF hex; PTS, DTS or ESCR_BASE is 2^33 or more; ESCR_EXTENSION is above 299; RATE is 0 or 2^22 or more; COPY_INFO is above
+   127.
+   18: payload_len is above 65,536; BOUNDED is not 0 and PES_packet_length would be above 65,535.
    19: out_len / 188, rounded down, is below the number of packets. */
-uint32_t cmv_write(uint16_t pid, uint8_t counter, uint8_t id, uint8_t bounded, uint8_t priority, uint8_t alignment, uint8_t copyright,
-    uint8_t original, uint8_t times, uint64_t pts, uint64_t dts, uint8_t escr_there, uint64_t escr_base, uint16_t escr_extension,
-    uint8_t rate_there, uint32_t rate, uint8_t trick_there, uint8_t trick, uint8_t copy_there, uint8_t copy, uint8_t crc_there,
-    uint16_t crc, const uint8_t *payload, size_t payload_len, uint8_t *out, size_t out_len, uint64_t *count);
+uint32_t cmv_write(uint16_t pid, uint8_t counter, const uint64_t unit[20], const uint8_t *payload, size_t payload_len, uint8_t *out,
+    size_t out_len, uint64_t *count);
 
 #ifdef __cplusplus
 }

@@ -33,7 +33,7 @@ struct Event {
 /* The event machine of a PID, with its log. */
 class Machine {
 public:
-    Machine() : state{{0, 255, 0, 0}}, log(1024) {}
+    Machine() : log(1024) { cmv_machine_fresh(state.data()); }
 
     /* Takes packets up to the one that the log has no room for. Gives how many it took, and their events. */
     std::uint64_t run(const std::uint8_t *packets, std::size_t size, std::vector<Event> &events) {
@@ -59,7 +59,7 @@ private:
 /* The gathering store of a PID. */
 class Gathering {
 public:
-    Gathering() : state{{0, 0, 255}}, store(1 << 20) {}
+    Gathering() : store(1 << 20) { cmv_gather_fresh(state.data()); }
 
     void take(const std::uint8_t *packet, const Event &event) {
         accepted(cmv_gather(state.data(), packet, CMV_PACKET_SIZE, static_cast<std::uint8_t>(event.kind),

@@ -116,6 +116,7 @@ extern "C" {
     pub fn cmv_timestamp_from_u64(val: u64, value: *mut u64) -> u32;
     pub fn cmv_timestamp_likely_wrapped_since(val: u64, since: u64, wrapped: *mut u64) -> u32;
     pub fn cmv_timestamp_constants(max: *mut u64, timebase: *mut u64) -> u32;
+    pub fn cmv_gather_fresh(state: *mut [u64; 3]);
     pub fn cmv_gather(
         state: *mut [u64; 3],
         packet: *const u8,
@@ -136,6 +137,7 @@ extern "C" {
         place: *mut u64,
         length: *mut u64,
     ) -> u32;
+    pub fn cmv_machine_fresh(state: *mut [u64; 4]);
     pub fn cmv_machine_step(
         state: *mut [u64; 4],
         packet: *const u8,
