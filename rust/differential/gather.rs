@@ -99,7 +99,7 @@ pub const LONGEST: usize = SIZE + 1;
 const WHOLE_PACKET: u64 = SIZE as u64;
 
 /// Numbers for open: two stand for a state.
-const OPENED: [u64; 8] = [0, 1, 2, 255, 256, 1 << 32, 1 + (1 << 32), u64::MAX];
+const OPENED: [u64; 9] = [0, 1, 2, 255, 256, 1 << 32, 1 + (1 << 32), 1 << 63, u64::MAX];
 
 const KINDS: [u64; 5] = [event::START, event::BEGIN, event::CONTINUE, event::END, event::ERROR];
 
@@ -150,11 +150,11 @@ impl Cases {
     /// anew at 0.
     fn every_state(&mut self) {
         for room in [0, 50, SIZE, LARGEST] {
-            for lies in (0..=256).chain([256 + 100, 1 << 32, STORE + (1 << 32), u64::MAX - 20, u64::MAX]) {
+            for lies in (0..=256).chain([256 + 100, 1 << 32, STORE + (1 << 32), 1 << 63, u64::MAX - 20, u64::MAX]) {
                 let packet = self.packet(4);
                 let bounds = [room as u64, WHOLE_PACKET.saturating_sub(lies), lies.wrapping_neg()];
                 let counts = bounds.into_iter().flat_map(around);
-                for count in counts.chain([0, 1, 184, 1 << 32, u64::MAX - 187, u64::MAX]) {
+                for count in counts.chain([0, 1, 184, 1 << 32, 1 << 63, u64::MAX - 187, u64::MAX]) {
                     for (opened, kind) in OPENED.into_iter().flat_map(|opened| KINDS.map(|kind| (opened, kind))) {
                         let event = Event { kind, place: 4, length: 184 };
                         self.take(Gathering { opened, count: count as usize, lies }, &packet, event, room);
@@ -180,15 +180,24 @@ impl Cases {
 
     /// Of each ground for a refusal several, with the others and without: the numbers have an order.
     fn every_refusal(&mut self) {
-        const STATES: [(u64, usize, u64); 8] = [
+        const STATES: [(u64, usize, u64); 17] = [
             (0, 0, STORE),
             (1, 100, STORE),
             (1, 100, 88),
             (1, 100, 89),
             (2, 0, STORE),
+            (256, 0, STORE),
             (1 + (1 << 32), 0, STORE),
+            (u64::MAX, 0, STORE),
+            (1, 0, 189),
+            (1, 0, 254),
+            (1, 0, 256),
             (1, 0, 88 + (1 << 32)),
+            (1, 0, u64::MAX),
             (1, 301, STORE),
+            (1, 1 << 32, STORE),
+            (1, 1 << 63, STORE),
+            (1, usize::MAX, STORE),
         ];
         const EVENTS: [(u64, u64, u64); 8] =
             [(1, 188, 0), (2, 4, 184), (3, 4, 184), (4, 0, 0), (5, 189, 0), (0, 0, 0), (3, 4, 185), (6, 4, 4)];

@@ -344,10 +344,10 @@ fn ran(state: State, packets: &[u8], room: usize, number: u32) -> Result<Ran, u3
 }
 
 /// Numbers of each position of a row.
-const PHASES: [u64; 9] = [0, 1, 2, 3, 255, 256, 1 << 32, 1 + (1 << 32), u64::MAX];
-const COUNTERS: [u64; 9] = [0, 15, 16, 254, 255, 256, 1 << 32, 255 + (1 << 32), u64::MAX];
-const TAKEN: [u64; 6] = [0, MOST_TAKEN - 1, MOST_TAKEN, MOST_TAKEN + 1, 1 << 63, u64::MAX];
-const PLACES: [usize; 5] = [0, ENTRY, ENTRY - 1, LONGEST_LOG + ENTRY, usize::MAX - 7];
+const PHASES: [u64; 10] = [0, 1, 2, 3, 255, 256, 1 << 32, 1 + (1 << 32), 1 << 63, u64::MAX];
+const COUNTERS: [u64; 11] = [0, 15, 16, 254, 255, 256, 1 << 32, 15 + (1 << 32), 255 + (1 << 32), 1 << 63, u64::MAX];
+const TAKEN: [u64; 7] = [0, MOST_TAKEN - 1, MOST_TAKEN, MOST_TAKEN + 1, 1 + (1 << 32), 1 << 63, u64::MAX];
+const PLACES: [usize; 8] = [0, ENTRY, ENTRY - 1, LONGEST_LOG + ENTRY, 1 << 32, 1 << 63, usize::MAX - 7, usize::MAX];
 
 // ---- Packets.
 
