@@ -199,16 +199,15 @@ impl Mark {
 /// # Memory
 ///
 /// The payload of an open unit is kept in the store of its PID. All stores together hold at most the bytes that [`Demux::memory`] allows,
-/// 64 MiB if nothing else is said, and a unit has at most those of [`Demux::at_most`], 16 MiB. Beside that a `Demux` has 16 KiB, and about
-/// 200 bytes for each PID that it has seen.
+/// 64 MiB if nothing else is said, and a unit has at most those of [`Demux::at_most`], 16 MiB. Beside that a `Demux` has about 200 bytes for
+/// each PID that it has seen, and a table of the PIDs, which grows to 16.5 KiB at most.
 ///
 /// A store grows by doubling. If it cannot grow within the bound, memory that no open unit needs is freed first: the stores of PIDs without
 /// an open unit, and what is more than double the unit in others. This is done at most once in as many packets as there are PIDs. If there
 /// is still no room, the unit that has to grow is given up: it is reported as [`Found::StoreFull`], its memory is freed, and its PID goes on
 /// with the next unit. Units of other PIDs are not touched.
 pub struct Demux {
-    /// For each PID the place of its stream, or [`NEW`] or [`UNWANTED`].
-    slots: Vec<u16>,
+    slots: Slots,
     streams: Vec<Stream>,
     marked: Marked,
     /// The most bytes of a unit.
@@ -221,12 +220,6 @@ pub struct Demux {
     free_again: u64,
     index: u64,
 }
-
-/// The slot of a PID of which no packet was taken.
-const NEW: u16 = u16::MAX;
-
-/// The slot of a PID that is left out.
-const UNWANTED: u16 = u16::MAX - 1;
 
 impl Default for Demux {
     fn default() -> Demux {
@@ -246,8 +239,8 @@ impl Demux {
     /// For every PID except that of stuffing. Marked packets are dropped; a unit has at most 16 MiB, and all stores together 64 MiB.
     #[must_use]
     pub fn new() -> Demux {
-        let mut slots = vec![NEW; Pid::PID_COUNT];
-        slots[usize::from(Pid::STUFFING)] = UNWANTED;
+        let mut slots = Slots::all(NEW);
+        slots.set(Pid::STUFFING, UNWANTED);
         let (streams, marked) = (Vec::new(), Marked::default());
         Demux { slots, streams, marked, unit: UNIT, memory: MEMORY, held: 0, free_again: 0, index: 0 }
     }
@@ -264,8 +257,8 @@ impl Demux {
     /// ```
     #[must_use]
     pub fn only(mut self, pids: &[Pid]) -> Demux {
-        self.slots.fill(UNWANTED);
-        pids.iter().for_each(|pid| self.slots[usize::from(*pid)] = NEW);
+        self.slots = Slots::all(UNWANTED);
+        pids.iter().for_each(|pid| self.slots.set(*pid, NEW));
         (self.streams, self.held) = (Vec::new(), 0);
         self
     }
@@ -345,7 +338,7 @@ impl Demux {
             Ok(both) => both,
             Err(error) => return tell(Found::Refused { index, error }),
         };
-        let slot = self.slots[usize::from(pid)];
+        let slot = self.slots.get(pid);
         if slot == UNWANTED {
             return;
         }
@@ -368,7 +361,7 @@ impl Demux {
     #[cold]
     fn add(&mut self, pid: Pid) -> usize {
         let slot = self.streams.len();
-        self.slots[usize::from(pid)] = slot as u16;
+        self.slots.set(pid, slot as u16);
         self.streams.push(Stream::new(pid));
         slot
     }
@@ -429,6 +422,51 @@ impl Demux {
     pub fn finish(mut self, mut tell: impl FnMut(Found<'_>)) {
         self.streams.sort_by_key(|stream| stream.pid);
         self.streams.iter_mut().for_each(|stream| stream.finish(&mut tell));
+    }
+}
+
+/// The slot of a PID of which no packet was taken.
+const NEW: u16 = u16::MAX;
+
+/// The slot of a PID that is left out.
+const UNWANTED: u16 = u16::MAX - 1;
+
+/// The PIDs of a page of slots.
+const PAGE: usize = 64;
+
+/// For each PID the place of its stream, or [`NEW`] or [`UNWANTED`]. A recording has few PIDs: a page is made for those that are near one
+/// that is set, and all others share the first page.
+struct Slots {
+    pages: [u8; Pid::PID_COUNT / PAGE],
+    slots: Vec<[u16; PAGE]>,
+}
+
+impl Slots {
+    /// The same for every PID.
+    fn all(slot: u16) -> Slots {
+        Slots { pages: [0; Pid::PID_COUNT / PAGE], slots: vec![[slot; PAGE]] }
+    }
+
+    /// The page of a PID, and its place there.
+    #[inline]
+    fn place(pid: Pid) -> (usize, usize) {
+        let pid = usize::from(pid);
+        (pid / PAGE % (Pid::PID_COUNT / PAGE), pid % PAGE)
+    }
+
+    #[inline]
+    fn get(&self, pid: Pid) -> u16 {
+        let (page, at) = Slots::place(pid);
+        self.slots[usize::from(self.pages[page])][at]
+    }
+
+    fn set(&mut self, pid: Pid, slot: u16) {
+        let (page, at) = Slots::place(pid);
+        if self.pages[page] == 0 {
+            self.pages[page] = self.slots.len() as u8;
+            self.slots.push(self.slots[0]);
+        }
+        self.slots[usize::from(self.pages[page])][at] = slot;
     }
 }
 
@@ -762,6 +800,20 @@ mod tests {
             "12 unit Pid(0032) None None 2000 false",
         ];
         assert_eq!(units, expected);
+    }
+
+    #[test]
+    fn slots_of_every_pid() {
+        let every = || (0..=Pid::MAX_VALUE).map(|pid| Pid::new(pid).unwrap());
+        for first in [NEW, UNWANTED] {
+            let mut slots = Slots::all(first);
+            for (slot, pid) in (0..).zip(every()) {
+                assert_eq!(slots.get(pid), first);
+                slots.set(pid, slot);
+            }
+            assert!((0..).zip(every()).all(|(slot, pid)| slots.get(pid) == slot));
+            assert_eq!(mem::size_of_val(&slots.pages) + mem::size_of_val(&slots.slots[..]), 128 + 129 * 128);
+        }
     }
 
     #[test]
