@@ -325,9 +325,23 @@ impl Demux {
     /// Takes the packets of the bytes, and tells what it finds, in the order of the packets; in a packet a clock reference comes first.
     /// Bytes after the last whole packet are refused and forgotten.
     pub fn push(&mut self, bytes: &[u8], mut tell: impl FnMut(Found<'_>)) {
-        for packet in bytes.chunks(Packet::SIZE) {
+        let packets = bytes.chunks_exact(Packet::SIZE);
+        let rest = packets.remainder();
+        for packet in packets {
             self.take(packet, &mut tell);
             self.index += 1;
+        }
+        if !rest.is_empty() {
+            self.refuse(rest, &mut tell);
+            self.index += 1;
+        }
+    }
+
+    /// Tells that bytes are no packet, and why.
+    #[cold]
+    fn refuse(&self, bytes: &[u8], tell: &mut impl FnMut(Found<'_>)) {
+        if let Err(error) = Packet::try_new(bytes) {
+            tell(Found::Refused { index: self.index, error });
         }
     }
 
@@ -370,18 +384,22 @@ impl Demux {
     #[inline]
     fn step(&mut self, slot: usize, packet: &[u8], tell: &mut impl FnMut(Found<'_>)) {
         let mut log = [0; LOG];
-        let machine = &mut self.streams[slot].machine;
-        machine.rewind();
-        sure(machine.step(packet, &mut log));
-        let end = machine.place();
-        if end == 0 {
-            return;
+        let stream = &mut self.streams[slot];
+        stream.machine.rewind();
+        sure(stream.machine.step(packet, &mut log));
+        match stream.machine.place() {
+            0 => (),
+            // Most packets only go on with a unit that has room for them.
+            ENTRY if stream.goes_on(packet, sure(ffi::log_entry_at(&log, 0))) => (),
+            end => self.events(slot, packet, &log[..end], tell),
         }
-        // Most packets only go on with a unit that has room for them.
-        let first = sure(ffi::log_entry_at(&log, 0));
-        let begin = if self.streams[slot].goes_on(packet, first) { ENTRY } else { 0 };
-        for at in (begin..end).step_by(ENTRY) {
-            match Event::at(&log, at) {
+    }
+
+    /// Has a stream take the events of a packet. It is not inlined, so that the short way before it has the registers.
+    #[inline(never)]
+    fn events(&mut self, slot: usize, packet: &[u8], log: &[u8], tell: &mut impl FnMut(Found<'_>)) {
+        for at in (0..log.len()).step_by(ENTRY) {
+            match Event::at(log, at) {
                 Ok(event) => self.event(slot, packet, event, tell),
                 Err(error) => tell(Found::Refused { index: self.index, error }),
             }
