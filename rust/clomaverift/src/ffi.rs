@@ -4,7 +4,6 @@
 
 use crate::declarations::*;
 use crate::error::Error;
-use crate::writer::{Numbers, Unit};
 
 /// The layout of the library that this crate was written for. An archive of another one does not have the symbol, and a program does not
 /// link with it.
@@ -195,7 +194,7 @@ functions! {
     es_rate_bytes_per_second = cmv_es_rate_bytes_per_second(rate: u32 => value);
 }
 
-// ---- The constants and `Pid::new`, which this crate has as its own: its tests hold the two together.
+// ---- The constants, the rows before the first packet and `Pid::new`, which this crate has as its own: its tests hold the two together.
 
 #[cfg_attr(not(test), allow(dead_code))]
 pub mod constants {
@@ -206,6 +205,20 @@ pub mod constants {
         control = cmv_control_constants(=> max, count);
         packet = cmv_packet_constants(=> sync, size);
         pid_new = cmv_pid_new(pid: u16 => value);
+    }
+
+    /// The row of a machine before its first packet, in place of another.
+    pub fn machine_fresh(mut state: [u64; 4]) -> [u64; 4] {
+        // SAFETY: the row is live: all that the entry asks.
+        unsafe { cmv_machine_fresh(&mut state) };
+        state
+    }
+
+    /// The row of a gathering store before its first event, in place of another.
+    pub fn gather_fresh(mut state: [u64; 3]) -> [u64; 3] {
+        // SAFETY: the row is live: all that the entry asks.
+        unsafe { cmv_gather_fresh(&mut state) };
+        state
     }
 }
 
@@ -265,42 +278,15 @@ pub fn gather_bytes(state: &[u64; 3], packet: &[u8], store: &[u8]) -> Result<[u6
 
 // ---- The writer.
 
-/// The number of packets.
-pub fn write(unit: &Unit, payload: &[u8], out: &mut [u8]) -> Result<u64, Error> {
-    let n = Numbers::of(unit);
+/// The number of packets. The unit's fields are a row of numbers.
+#[inline]
+pub fn write(pid: u16, counter: u8, unit: &[u64; 20], payload: &[u8], out: &mut [u8]) -> Result<u64, Error> {
     let mut count = 0;
-    // SAFETY: the pointers and the lengths are those of live slices, the out number is live, and what is written shares no byte with
-    // another.
+    // SAFETY: the pointers and the lengths are those of a live row and live slices, the out number is live, and what is written shares no
+    // byte with another.
     let word = unsafe {
-        cmv_write(
-            unit.pid,
-            unit.counter,
-            unit.id,
-            unit.bounded.into(),
-            unit.priority.into(),
-            unit.alignment.into(),
-            unit.copyright.into(),
-            unit.original.into(),
-            n.times,
-            n.pts,
-            n.dts,
-            unit.escr.is_some().into(),
-            n.escr_base,
-            n.escr_extension,
-            unit.es_rate.is_some().into(),
-            unit.es_rate.unwrap_or(0),
-            unit.trick_mode.is_some().into(),
-            unit.trick_mode.unwrap_or(0),
-            unit.copy_info.is_some().into(),
-            unit.copy_info.unwrap_or(0),
-            unit.crc.is_some().into(),
-            unit.crc.unwrap_or(0),
-            payload.as_ptr(),
-            payload.len(),
-            out.as_mut_ptr(),
-            out.len(),
-            &mut count,
-        )
+        let (payload, payload_len) = (payload.as_ptr(), payload.len());
+        cmv_write(pid, counter, unit, payload, payload_len, out.as_mut_ptr(), out.len(), &mut count)
     };
     told(word, count)
 }

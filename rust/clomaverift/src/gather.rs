@@ -8,6 +8,9 @@ use core::fmt;
 /// The number that says that the bytes lie in the store.
 const STORE: u64 = 255;
 
+/// The row before the first event: an entry of the library fills it too, and a test holds the two together.
+const FRESH: [u64; 3] = [0, 0, STORE];
+
 /// What is known of the unit that is gathered from a stream's events. Its bytes stand in a store of the caller's.
 ///
 /// ```
@@ -44,7 +47,7 @@ impl Gathering {
     #[must_use]
     #[inline]
     pub fn new() -> Gathering {
-        Gathering { row: [0, 0, STORE] }
+        Gathering { row: FRESH }
     }
 
     /// Takes an event of a packet. A begin opens a new unit with the payload after the header, a continue adds to an open unit, an end
@@ -114,6 +117,13 @@ mod tests {
 
     fn event(kind: EventKind, place: u8, length: u8) -> Event {
         Event { kind, index: 0, place, length }
+    }
+
+    #[test]
+    fn a_new_gathering_is_the_librarys() {
+        for number in [0, 1, 255, u64::MAX] {
+            assert_eq!(ffi::constants::gather_fresh([number; 3]), Gathering::new().row);
+        }
     }
 
     #[test]

@@ -9,6 +9,9 @@ use core::iter::FusedIterator;
 /// The number of no last counter.
 const NO_COUNTER: u64 = 255;
 
+/// The row before the first packet: an entry of the library fills it too, and a test holds the two together.
+const FRESH: [u64; 4] = [0, NO_COUNTER, 0, 0];
+
 /// The bytes of a log entry.
 pub(crate) const ENTRY: usize = 8;
 
@@ -61,7 +64,7 @@ impl Machine {
     #[must_use]
     #[inline]
     pub fn new() -> Machine {
-        Machine { row: [0, NO_COUNTER, 0, 0] }
+        Machine { row: FRESH }
     }
 
     /// A machine in a state that was kept elsewhere. A step or a run checks the place, which has to be a multiple of 8 within the log.
@@ -392,6 +395,13 @@ mod tests {
         assert_eq!(told(&machine, &log), expected);
         assert_eq!((machine.phase(), machine.last()), (Phase::Started, ContinuityCounter::new(3).ok()));
         assert_eq!((machine.taken(), machine.place()), (3, 40));
+    }
+
+    #[test]
+    fn a_new_machine_is_the_librarys() {
+        for number in [0, 1, 255, u64::MAX] {
+            assert_eq!(ffi::constants::machine_fresh([number; 4]), Machine::new().row);
+        }
     }
 
     #[test]

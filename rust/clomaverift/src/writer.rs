@@ -242,27 +242,47 @@ impl Unit {
         out.truncate(count * Packet::SIZE);
         Ok(out)
     }
-}
 
-/// The numbers of a unit's timestamps and clock, as the library takes them.
-pub(crate) struct Numbers {
-    pub times: u8,
-    pub pts: u64,
-    pub dts: u64,
-    pub escr_base: u64,
-    pub escr_extension: u16,
-}
-
-impl Numbers {
-    pub fn of(unit: &Unit) -> Numbers {
-        let (times, pts, dts) = match unit.times {
-            Times::Untimed => (0, 0, 0),
-            Times::Pts(pts) => (1, pts, 0),
-            Times::Both { pts, dts } => (2, pts, dts),
+    /// The row of numbers that the library is lent. The types leave no unit that it would refuse with [`Error::OutOfRange`].
+    fn row(&self) -> [u64; 20] {
+        let [times, pts, dts] = match self.times {
+            Times::Untimed => [0; 3],
+            Times::Pts(pts) => [1, pts, 0],
+            Times::Both { pts, dts } => [2, pts, dts],
         };
-        let (escr_base, escr_extension) = unit.escr.unwrap_or_default();
-        Numbers { times, pts, dts, escr_base, escr_extension }
+        let [escr_there, base, extension] = self.escr.map_or([0; 3], |(base, extension)| [1, base, extension.into()]);
+        let [rate_there, rate] = field(self.es_rate);
+        let [trick_there, trick] = field(self.trick_mode);
+        let [copy_there, copy] = field(self.copy_info);
+        let [crc_there, crc] = field(self.crc);
+        [
+            self.id.into(),
+            self.bounded.into(),
+            self.priority.into(),
+            self.alignment.into(),
+            self.copyright.into(),
+            self.original.into(),
+            times,
+            pts,
+            dts,
+            escr_there,
+            base,
+            extension,
+            rate_there,
+            rate,
+            trick_there,
+            trick,
+            copy_there,
+            copy,
+            crc_there,
+            crc,
+        ]
     }
+}
+
+/// Whether a field is there, and its value or 0.
+fn field(value: Option<impl Into<u64>>) -> [u64; 2] {
+    value.map_or([0; 2], |value| [1, value.into()])
 }
 
 /// Writes a unit with its payload as packets to the start of `out`, and returns their number, the least that can carry the unit. The bytes
@@ -285,7 +305,7 @@ impl Numbers {
 /// # Ok::<(), Error>(())
 /// ```
 pub fn write(unit: &Unit, payload: &[u8], out: &mut [u8]) -> Result<usize, Error> {
-    ffi::write(unit, payload, out).map(|count| count as usize)
+    ffi::write(unit.pid, unit.counter, &unit.row(), payload, out).map(|count| count as usize)
 }
 
 #[cfg(test)]
@@ -325,6 +345,39 @@ mod tests {
         let second = Packet::try_new(&packets[188..]).unwrap();
         assert_eq!(second.continuity_counter().count(), 0);
         assert_eq!([contents.payload(), second.payload().unwrap()].concat(), payload);
+    }
+
+    #[test]
+    fn rows() {
+        let bare = [0xE0, 1, 0, 0, 0, 0, 0, 0, 0, 0, 0, 0, 0, 0, 0, 0, 0, 0, 0, 0];
+        assert_eq!(Unit::new(0x100, 0xE0).row(), bare);
+        assert_eq!(Unit::new(0x100, 0xE0).pts(7).row()[6..9], [1, 7, 0]);
+        let most = 8_589_934_591;
+        let row = [0xE5, 1, 1, 1, 1, 1, 2, most, 1, 1, most, 299, 1, 4_194_303, 1, 0x2A, 1, 127, 1, 0xBEEF];
+        assert_eq!(full().row(), row);
+        let bits: [fn(Unit) -> Unit; 5] = [
+            |unit| unit.bounded(false),
+            |unit| unit.priority(true),
+            |unit| unit.alignment(true),
+            |unit| unit.copyright(true),
+            |unit| unit.original(true),
+        ];
+        for (at, change) in (1..).zip(bits) {
+            let mut row = bare;
+            row[at] ^= 1;
+            assert_eq!(change(Unit::new(0x100, 0xE0)).row(), row);
+        }
+    }
+
+    /// Numbers that no field has are refused as fields: each fits its place of the row.
+    #[test]
+    fn the_largest_numbers_of_the_types() {
+        let mut unit = Unit::new(u16::MAX, u8::MAX).counter(u8::MAX).pts_dts(u64::MAX, u64::MAX).es_rate(u32::MAX);
+        unit = unit.trick_mode(u8::MAX).copy_info(u8::MAX).crc(u16::MAX);
+        unit.escr = Some((u64::MAX, u16::MAX));
+        assert_eq!(write(&unit, &[], &mut [0; 188]), Err(Error::BadField));
+        let good = Unit::new(0x100, 0xE0).trick_mode(u8::MAX).crc(u16::MAX);
+        assert_eq!(write(&good, &[], &mut [0; 188]), Ok(1));
     }
 
     #[test]
