@@ -316,7 +316,7 @@ fn gathered(packets: &[Bytes]) -> String {
 /// The packet that a unit of no bytes is written to.
 fn written(unit: &Unit) -> Bytes {
     let mut packet = vec![0; SIZE];
-    assert!(host_writer::write(unit, &mut [], &mut packet, &mut [0]) == 0, "the unit is permitted");
+    assert!(host_writer::write(&mut { *unit }, &mut [], &mut packet, &mut [0]) == 0, "the unit is permitted");
     packet
 }
 

@@ -37,9 +37,9 @@ fn put_field(packets: &mut Vec<u8>, length: usize) {
 }
 
 fn header(unit: &Unit, size: usize) -> Vec<u8> {
-    let there = |flag: u8| u64::from(flag != 0);
-    let times = [0b00, 0b10, 0b11][usize::from(unit.times.min(2))];
-    let mut bits = vec![(24, 1), (8, unit.id.into()), (16, unit.length(size) as u64), (2, 0b10), (2, 0)];
+    let there = |flag: u64| u64::from(flag != 0);
+    let times = [0b00, 0b10, 0b11][unit.times as usize];
+    let mut bits = vec![(24, 1), (8, unit.id), (16, unit.length(size) as u64), (2, 0b10), (2, 0)];
     bits.extend([unit.priority, unit.alignment, unit.copyright, unit.original].map(|flag| (1, there(flag))));
     bits.push((2, times));
     let flags = [unit.escr_there, unit.rate_there, unit.trick_there, unit.copy_there, unit.crc_there, 0];
@@ -54,16 +54,16 @@ fn header(unit: &Unit, size: usize) -> Vec<u8> {
         bits.extend(escr(unit));
     }
     if unit.rate_there != 0 {
-        bits.extend([(1, 1), (22, unit.rate.into()), (1, 1)]);
+        bits.extend([(1, 1), (22, unit.rate), (1, 1)]);
     }
     if unit.trick_there != 0 {
-        bits.push((8, unit.trick.into()));
+        bits.push((8, unit.trick));
     }
     if unit.copy_there != 0 {
-        bits.extend([(1, 1), (7, unit.copy.into())]);
+        bits.extend([(1, 1), (7, unit.copy)]);
     }
     if unit.crc_there != 0 {
-        bits.push((16, unit.crc.into()));
+        bits.push((16, unit.crc));
     }
     bytes(&bits)
 }
@@ -80,8 +80,7 @@ fn time(prefix: u64, time: u64) -> [Bits; 7] {
 /// Two reserved bits, then the parts of the base and the extension with a marker after each.
 fn escr(unit: &Unit) -> [Bits; 9] {
     let [high, middle, low] = parts(unit.escr_base);
-    let extension = unit.escr_extension.into();
-    [(2, 0b11), (3, high), (1, 1), (15, middle), (1, 1), (15, low), (1, 1), (9, extension), (1, 1)]
+    [(2, 0b11), (3, high), (1, 1), (15, middle), (1, 1), (15, low), (1, 1), (9, unit.escr_extension), (1, 1)]
 }
 
 /// Bits 32 to 30, 29 to 15 and 14 to 0.

@@ -60,6 +60,9 @@ impl Unit {
 
     /// The answer to writing it with so many bytes of payload, to so many bytes.
     pub fn answer(&self, size: usize, room: usize) -> Answer {
+        if self.is_none() {
+            return Answer::refused(14, &[]);
+        }
         if self.has_bad_field() {
             return Answer::refused(17, &[]);
         }
@@ -72,12 +75,26 @@ impl Unit {
         }
     }
 
+    /// Whether the row stands for no unit: a number above those of its type, a line each. Of a field that is not there none is looked at.
+    fn is_none(&self) -> bool {
+        let lines = [
+            self.id > u8::MAX.into(),
+            self.times > 2,
+            self.escr_there != 0 && self.escr_extension > u16::MAX.into(),
+            self.rate_there != 0 && self.rate > u32::MAX.into(),
+            self.trick_there != 0 && self.trick > u8::MAX.into(),
+            self.copy_there != 0 && self.copy > u8::MAX.into(),
+            self.crc_there != 0 && self.crc > u16::MAX.into(),
+        ];
+        lines.contains(&true)
+    }
+
     /// The request's list of fields that are refused, a row each.
     fn has_bad_field(&self) -> bool {
         let rows = [
             self.pid < 16 || self.pid > 8190,
             self.counter > 15,
-            self.id < 0xbc || BARE.contains(&self.id),
+            self.id < 0xbc || BARE.map(u64::from).contains(&self.id),
             self.bounded == 0 && !(0xe0..=0xef).contains(&self.id),
             self.times != 0 && self.pts >= TIMES,
             self.times > 1 && self.dts >= TIMES,
@@ -135,36 +152,37 @@ pub fn random_with(fields: Fields, rng: &mut Rng) -> Unit {
     Unit {
         pid: random_pid(rng),
         counter: rng.below(16) as u8,
-        id: random_id(bounded, rng),
+        id: random_id(bounded, rng).into(),
         bounded: flag(bounded, rng),
         priority,
         alignment,
         copyright,
         original,
-        times: if times < 2 { times as u8 } else { 1 + flag(true, rng).min(254) },
+        times: times as u64,
         pts: random_value(times > 0, 33, rng),
         dts: random_value(times > 1, 33, rng),
         escr_there,
         escr_base: random_value(escr_there != 0, 33, rng),
-        escr_extension: if escr_there != 0 { rng.below(300) as u16 } else { rng.next() as u16 },
+        escr_extension: if escr_there != 0 { rng.below(300) as u64 } else { rng.next() },
         rate_there,
-        rate: random_value(rate_there != 0, 22, rng).max((rate_there != 0).into()) as u32,
+        rate: random_value(rate_there != 0, 22, rng).max((rate_there != 0).into()),
         trick_there,
-        trick: rng.next() as u8,
+        trick: random_value(trick_there != 0, 8, rng),
         copy_there,
-        copy: random_value(copy_there != 0, 7, rng) as u8,
+        copy: random_value(copy_there != 0, 7, rng),
         crc_there,
-        crc: rng.next() as u16,
+        crc: random_value(crc_there != 0, 16, rng),
     }
 }
 
-/// Mostly 1 for yes, else another number.
-fn flag(yes: bool, rng: &mut Rng) -> u8 {
+/// Mostly 1 for yes, else another number: any bit may be the only one.
+fn flag(yes: bool, rng: &mut Rng) -> u64 {
     if !yes {
         return 0;
     }
-    match rng.below(4) {
-        0 => 2 + rng.below(254) as u8,
+    match rng.below(8) {
+        0 => rng.next().max(1),
+        1 => 1 << rng.below(64),
         _ => 1,
     }
 }

@@ -1,7 +1,8 @@
 //! The writer. The oracle has none: what is written is read back by the oracle's readers and its machine, and by the library's
 //! machine; and each byte is held against the standard's tables.
 
-use crate::host_writer::{self, Unit};
+use crate::function::around;
+use crate::host_writer::{self, Unit, NUMBERS};
 use crate::image;
 use crate::lent::Lent;
 use crate::module::{Module, Plan};
@@ -22,6 +23,7 @@ const ROOM: usize = (LONGEST / CARRIED + 4) * SIZE;
 
 fn compare(plan: &Plan) -> Vec<Tally> {
     let mut cases = Cases::new(plan.rng(1));
+    cases.every_row();
     cases.every_size();
     cases.longest();
     cases.refusals();
@@ -61,7 +63,7 @@ impl Cases {
         let mut filling = vec![0; LONGEST + ROOM];
         rng.fill(&mut filling);
         Cases {
-            write: Tally::new("writer::write", &[0, 17, 18, 19]),
+            write: Tally::new("writer::write", &[0, 14, 17, 18, 19]),
             read_back: ReadBack::new(MOST),
             rng,
             filling,
@@ -82,10 +84,10 @@ impl Cases {
             image::write(&mut self.image, unit, self.payload.slice());
             self.out.expect(0, &self.image);
         }
-        let (payload, out) = (&mut self.payload, &mut self.out);
+        let (mut lent, payload, out) = (*unit, &mut self.payload, &mut self.out);
         let entry = |outs: &mut [u64; 1]| {
-            let word = host_writer::write(unit, payload.slice(), out.slice(), outs);
-            (word, payload.unchanged() && out.unchanged())
+            let word = host_writer::write(&mut lent, payload.slice(), out.slice(), outs);
+            (word, lent == *unit && payload.unchanged() && out.unchanged())
         };
         self.write.call_lending(&expected, entry, || format!("{case:?}"));
         if expected.number() == 0 {
@@ -93,6 +95,24 @@ impl Cases {
             self.packets += count as u64;
             let written = Written { unit, payload: self.payload.slice(), packets: &mut self.out, count };
             self.read_back.read(written, &mut self.rng);
+        }
+    }
+
+    /// Each number of a row around each of its bounds and far above, with its flag clear and set by several numbers; of units that are
+    /// else written, and of ones that are else refused with 17, 18 and 19, as 14 comes before those.
+    fn every_row(&mut self) {
+        for fields in Fields::every().filter(Fields::none_or_all) {
+            let case = Case { unit: unit::random_with(fields, &mut self.rng), size: 10, beside: 0 };
+            for nth in 0..NUMBERS {
+                for (number, flag) in of_row(nth).flat_map(|number| FLAGS.map(|flag| (number, flag))) {
+                    for refused in REFUSED {
+                        let mut case = case;
+                        refused(&mut case);
+                        set(&mut case.unit, nth, number, flag);
+                        self.write(&case);
+                    }
+                }
+            }
         }
     }
 
@@ -159,8 +179,56 @@ impl Cases {
     }
 }
 
+// ---- Rows.
+
+/// Of each number of a row the place of its flag, or its own, and the bounds between what is written, what is refused with 17 and what is
+/// refused with 14.
+const ROW: [(usize, &[u64]); NUMBERS] = [
+    (0, &[0xbb, 0xff]),
+    (1, &[0]),
+    (2, &[0]),
+    (3, &[0]),
+    (4, &[0]),
+    (5, &[0]),
+    (6, &[2]),
+    (6, &[TIMES - 1]),
+    (6, &[TIMES - 1]),
+    (9, &[0]),
+    (9, &[TIMES - 1]),
+    (9, &[299, 0xffff]),
+    (12, &[0]),
+    (12, &[0, (1 << 22) - 1, 0xffff_ffff]),
+    (14, &[0]),
+    (14, &[0xff]),
+    (16, &[0]),
+    (16, &[0x7f, 0xff]),
+    (18, &[0]),
+    (18, &[0xffff]),
+];
+
+/// For a number of a row: those around its bounds; some with lower bits that a type would hold; and the largest.
+fn of_row(nth: usize) -> impl Iterator<Item = u64> {
+    let (_, bounds) = ROW[nth];
+    let far = [1 << 8, 1 << 16, 1 << 32, 1 + (1 << 32), 0xe0 + (1 << 32), 1 << 63, u64::MAX];
+    bounds.iter().flat_map(|bound| around(*bound)).chain(far)
+}
+
+/// Flags: no, and three times yes. For times 0 to 2, and a number that stands for none.
+const FLAGS: [u64; 4] = [0, 1, 2, u64::MAX];
+
+/// Changes of a unit to one that is refused with 17, 18 or 19, and none.
+const REFUSED: [fn(&mut Case); 4] =
+    [|_| (), |case| case.unit.pid = 0, |case| case.size = MOST + 1, |case| case.beside = -1];
+
+/// Sets a number of a unit's row and its flag; the number alone, where it is one.
+fn set(unit: &mut Unit, nth: usize, number: u64, flag: u64) {
+    let (there, _) = ROW[nth];
+    unit.numbers()[there] = flag;
+    unit.numbers()[nth] = number;
+}
+
 /// Each bound of a field, a size and the room, from both sides; and fields that come or go.
-const CHANGES: [fn(&mut Case); 58] = [
+const CHANGES: [fn(&mut Case); 72] = [
     |_| (),
     |case| case.unit.pid = 0,
     |case| case.unit.pid = 15,
@@ -177,12 +245,15 @@ const CHANGES: [fn(&mut Case); 58] = [
     |case| case.unit.id = 0xbd,
     |case| case.unit.id = 0xdf,
     |case| case.unit.id = 0xf0,
+    |case| case.unit.id = 0xe0 + 256,
     |case| case.unit.bounded = 0,
     |case| case.unit.bounded = 128,
+    |case| case.unit.bounded = 1 << 32,
     |case| case.unit.times = 0,
     |case| case.unit.times = 1,
     |case| case.unit.times = 2,
-    |case| case.unit.times = 255,
+    |case| case.unit.times = 3,
+    |case| case.unit.times = 1 + (1 << 32),
     |case| case.unit.pts = TIMES - 1,
     |case| case.unit.pts = TIMES,
     |case| case.unit.pts = u64::MAX,
@@ -198,19 +269,30 @@ const CHANGES: [fn(&mut Case); 58] = [
     |case| case.unit.escr_extension = 300,
     |case| case.unit.escr_extension = 511,
     |case| case.unit.escr_extension = 512,
-    |case| case.unit.escr_extension = u16::MAX,
+    |case| case.unit.escr_extension = u16::MAX.into(),
+    |case| case.unit.escr_extension = 1 << 16,
     |case| case.unit.rate_there = 0,
     |case| case.unit.rate_there = 4,
     |case| case.unit.rate = 0,
     |case| case.unit.rate = 1,
     |case| case.unit.rate = (1 << 22) - 1,
     |case| case.unit.rate = 1 << 22,
-    |case| case.unit.rate = u32::MAX,
+    |case| case.unit.rate = u32::MAX.into(),
+    |case| case.unit.rate = 1 + (1 << 32),
+    |case| case.unit.trick_there = 0,
+    |case| case.unit.trick_there = 256,
+    |case| case.unit.trick = 255,
+    |case| case.unit.trick = 256,
     |case| case.unit.copy_there = 0,
     |case| case.unit.copy_there = 16,
     |case| case.unit.copy = 127,
     |case| case.unit.copy = 128,
     |case| case.unit.copy = 255,
+    |case| case.unit.copy = 256,
+    |case| case.unit.crc_there = 0,
+    |case| case.unit.crc_there = 1 << 63,
+    |case| case.unit.crc = u16::MAX.into(),
+    |case| case.unit.crc = 1 << 16,
     |case| case.size = 65_535 - 3 - case.unit.data(),
     |case| case.size = 65_535 - 2 - case.unit.data(),
     |case| case.size = MOST,

@@ -184,12 +184,12 @@ fn compare<const N: usize>(
 // ---- What a unit's packets are to be read as, in the order of the readings.
 
 /// A flag is any number but 0.
-fn flag(number: u8) -> Answer {
+fn flag(number: u64) -> Answer {
     Answer::value(number != 0)
 }
 
 /// Values where the field is there, else 9.
-fn field(there: u8, values: &[u64]) -> Answer {
+fn field(there: u64, values: &[u64]) -> Answer {
     match there {
         0 => Answer::refused(9, &[]),
         _ => Answer::done(values),
@@ -222,7 +222,7 @@ fn head_answers(unit: &Unit, size: usize, carried: usize) -> [Answer; 4] {
     };
     [
         Answer::done(&[]),
-        Answer::done(&[range.into(), (unit.id - range).into()]),
+        Answer::done(&[range, unit.id - range]),
         Answer::done(&[(unit.bounded != 0).into(), unit.length(size) as u64]),
         Answer::done(&[1, HEAD as u64, (carried - HEAD) as u64]),
     ]
@@ -231,8 +231,7 @@ fn head_answers(unit: &Unit, size: usize, carried: usize) -> [Answer; 4] {
 /// Contents of which the packet has so many bytes.
 fn contents_answers(unit: &Unit, len: usize) -> [Answer; 17] {
     let there = [unit.escr_there, unit.rate_there, unit.trick_there, unit.copy_there, unit.crc_there];
-    let flags =
-        there.iter().fold([0, 2, 3][usize::from(unit.times.min(2))], |bits, flag| bits << 1 | u8::from(*flag != 0));
+    let flags = there.iter().fold([0, 2, 3][unit.times as usize], |bits, flag| bits << 1 | u8::from(*flag != 0));
     let times = match unit.times {
         0 | 1 => field(unit.times, &[1, 0, unit.pts, 0, 0]),
         _ => Answer::done(&[2, 0, unit.pts, 0, unit.dts]),
@@ -248,12 +247,12 @@ fn contents_answers(unit: &Unit, len: usize) -> [Answer; 17] {
         flag(unit.copyright),
         flag(unit.original),
         times,
-        field(unit.escr_there, &[unit.escr_base, unit.escr_extension.into()]),
-        field(unit.rate_there, &[unit.rate.into()]),
-        field(unit.trick_there, &trick(unit.trick.into())),
-        field(unit.trick_there, &[unit.trick.into()]),
-        field(unit.copy_there, &[unit.copy.into()]),
-        field(unit.crc_there, &[unit.crc.into()]),
+        field(unit.escr_there, &[unit.escr_base, unit.escr_extension]),
+        field(unit.rate_there, &[unit.rate]),
+        field(unit.trick_there, &trick(unit.trick)),
+        field(unit.trick_there, &[unit.trick]),
+        field(unit.copy_there, &[unit.copy]),
+        field(unit.crc_there, &[unit.crc]),
         field(0, &[]),
         Answer::done(&[payload as u64, (len - payload) as u64]),
     ]

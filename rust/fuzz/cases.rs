@@ -129,31 +129,11 @@ impl Cases {
     }
 }
 
+/// A unit by its row.
 fn unit(input: &mut Input) -> Unit {
-    Unit {
-        pid: input.short(),
-        counter: input.byte(),
-        id: input.byte(),
-        bounded: input.byte(),
-        priority: input.byte(),
-        alignment: input.byte(),
-        copyright: input.byte(),
-        original: input.byte(),
-        times: input.byte(),
-        pts: input.long(),
-        dts: input.long(),
-        escr_there: input.byte(),
-        escr_base: input.long(),
-        escr_extension: input.short(),
-        rate_there: input.byte(),
-        rate: input.word(),
-        trick_there: input.byte(),
-        trick: input.byte(),
-        copy_there: input.byte(),
-        copy: input.byte(),
-        crc_there: input.byte(),
-        crc: input.short(),
-    }
+    let mut unit = Unit { pid: input.short(), counter: input.byte(), ..Unit::default() };
+    unit.numbers().iter_mut().for_each(|number| *number = input.long());
+    unit
 }
 
 /// The functions on numbers.

@@ -49,14 +49,10 @@ uint32_t __wrap_cmv_gather(uint64_t state[3], const uint8_t *packet, size_t pack
 WRONG(cmv_write);
 
 /* A written byte that differs: of a unit with a CRC whose last packet lacks one byte, the length of the adaptation field. */
-uint32_t __wrap_cmv_write(uint16_t pid, uint8_t counter, uint8_t id, uint8_t bounded, uint8_t priority, uint8_t alignment,
-    uint8_t copyright, uint8_t original, uint8_t times, uint64_t pts, uint64_t dts, uint8_t escr_there, uint64_t escr_base,
-    uint16_t escr_extension, uint8_t rate_there, uint32_t rate, uint8_t trick_there, uint8_t trick, uint8_t copy_there, uint8_t copy,
-    uint8_t crc_there, uint16_t crc, const uint8_t *payload, size_t payload_len, uint8_t *out, size_t out_len, uint64_t *count) {
-    uint32_t word = __real_cmv_write(pid, counter, id, bounded, priority, alignment, copyright, original, times, pts, dts, escr_there,
-        escr_base, escr_extension, rate_there, rate, trick_there, trick, copy_there, copy, crc_there, crc, payload, payload_len, out,
-        out_len, count);
-    if (word == 0 && crc_there) {
+uint32_t __wrap_cmv_write(uint16_t pid, uint8_t counter, const uint64_t unit[20], const uint8_t *payload, size_t payload_len, uint8_t *out,
+    size_t out_len, uint64_t *count) {
+    uint32_t word = __real_cmv_write(pid, counter, unit, payload, payload_len, out, out_len, count);
+    if (word == 0 && unit[18] != 0) {
         uint8_t *last = out + 188 * (*count - 1);
         if ((last[3] & 0x20) && last[4] == 0)
             last[4] = 1;

@@ -42,8 +42,8 @@ impl Work for Written {
 
     /// The same loop for every side: the call goes through a pointer that the compiler does not know.
     fn run(&mut self, side: Side) {
-        let write: fn(&Unit, &mut [u8], &mut [u8]) = black_box(side.choose(library, rust, |_, _, _| ()));
-        (0..UNITS).for_each(|_| write(&self.unit, &mut self.payload, black_box(&mut self.out)));
+        let write: fn(&mut Unit, &mut [u8], &mut [u8]) = black_box(side.choose(library, rust, |_, _, _| ()));
+        (0..UNITS).for_each(|_| write(&mut self.unit, &mut self.payload, black_box(&mut self.out)));
     }
 
     /// The two sides give different bytes: there is nothing to compare.
@@ -72,14 +72,14 @@ fn unit() -> Unit {
     }
 }
 
-fn library(unit: &Unit, payload: &mut [u8], out: &mut [u8]) {
+fn library(unit: &mut Unit, payload: &mut [u8], out: &mut [u8]) {
     let mut count = [0];
     let word = host_writer::write(unit, payload, out, &mut count);
     assert!((word, count) == (0, [PACKETS as u64]), "the unit was not written");
 }
 
 /// The pieces are a little more than the packets carry of the payload, as the header takes its part of the first packet.
-fn rust(_: &Unit, payload: &mut [u8], out: &mut [u8]) {
+fn rust(_: &mut Unit, payload: &mut [u8], out: &mut [u8]) {
     let packets = out.chunks_exact_mut(Packet::SIZE);
     for (piece, packet) in payload.chunks(PIECE).zip(packets) {
         packet[PLACE..][..piece.len()].copy_from_slice(piece);
