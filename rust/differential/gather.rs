@@ -7,7 +7,7 @@ use crate::event::{self, Event};
 use crate::function::around;
 use crate::gather_rules::{gathered, held};
 use crate::gather_stream;
-use crate::host_gather::{Gathering, STORE};
+use crate::host_gather::{self, Gathering, STORE};
 use crate::lent::Lent;
 use crate::module::{Module, Plan};
 use crate::rng::Rng;
@@ -29,7 +29,19 @@ fn compare(plan: &Plan) -> Vec<Tally> {
     (0..plan.share(4)).for_each(|_| cases.random());
     let mut tallies = cases.into_tallies();
     tallies.extend(gather_stream::compare_random(plan.count, &mut plan.rng(2)));
+    tallies.push(compare_fresh(&mut plan.rng(3)));
     tallies
+}
+
+/// The state before any event, in place of rows that stand for a state or not, and of random ones.
+fn compare_fresh(rng: &mut Rng) -> Tally {
+    let mut tally = Tally::new("gather::new, its row", &[0]);
+    let mut fill = |before| tally.call_filling(&Gathering::FIRST.numbers(), host_gather::fresh, before);
+    for (opened, count) in OPENED.into_iter().flat_map(|opened| OPENED.map(|count| (opened, count))) {
+        OPENED.into_iter().chain([WHOLE_PACKET, STORE]).for_each(|lies| fill([opened, count, lies]));
+    }
+    (0..10_000).for_each(|_| fill([(); 3].map(|()| rng.next())));
+    tally
 }
 
 // ---- Calls.

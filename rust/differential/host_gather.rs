@@ -1,6 +1,6 @@
 //! Safe calls of the gathering store's entries. A state is a row of three numbers that the caller keeps and lends.
 
-use crate::declarations::{cmv_gather, cmv_gather_bytes};
+use crate::declarations::{cmv_gather, cmv_gather_bytes, cmv_gather_fresh};
 use crate::event::Event;
 
 /// Where the bytes lie, if not at a place of the packet: in the store.
@@ -46,4 +46,10 @@ impl Gathering {
         // The pointers and the lengths are those of a live row and live slices, and the out numbers are live: all that the entry asks.
         unsafe { cmv_gather_bytes(self.row(), packet, packet_len, store, store_len, slice, place, length) }
     }
+}
+
+/// Has the library fill a row with the state before any event.
+pub fn fresh(row: &mut [u64; 3]) {
+    // The row is live: all that the entry asks.
+    unsafe { cmv_gather_fresh(row) }
 }

@@ -1,6 +1,6 @@
 //! Safe calls of the entries of the event machine and of its log. A state is a row of four numbers that the caller keeps and lends.
 
-use crate::declarations::{cmv_log_entry_at, cmv_machine_run, cmv_machine_step};
+use crate::declarations::{cmv_log_entry_at, cmv_machine_fresh, cmv_machine_run, cmv_machine_step};
 
 /// The numbers of the phases.
 pub const BEGIN: u64 = 0;
@@ -43,6 +43,12 @@ impl State {
     fn row(&mut self) -> *mut [u64; 4] {
         (self as *mut State).cast()
     }
+}
+
+/// Has the library fill a row with the state before any packet.
+pub fn fresh(row: &mut [u64; 4]) {
+    // The row is live: all that the entry asks.
+    unsafe { cmv_machine_fresh(row) }
 }
 
 /// Steps over a packet, and writes its events to a log. The library only reads the packet. It is taken as `&mut` here, so that the

@@ -28,7 +28,17 @@ fn compare(plan: &Plan) -> Vec<Tally> {
     let mut rng = plan.rng(2);
     tallies.extend(machine_stream::compare_random(plan.count, &mut plan.rng(3)));
     tallies.push(compare_entries(&mut rng));
+    tallies.push(compare_fresh(&mut rng));
     tallies
+}
+
+/// The state before any packet, in place of every row that is tried, and of random ones.
+fn compare_fresh(rng: &mut Rng) -> Tally {
+    let mut tally = Tally::new("machine::new, its row", &[0]);
+    let mut fill = |before| tally.call_filling(&State::FIRST.numbers(), host_machine::fresh, before);
+    every_row().for_each(|state| fill(state.numbers()));
+    (0..10_000).for_each(|_| fill([(); 4].map(|()| rng.next())));
+    tally
 }
 
 /// A header is read as it stands in memory: tried on a slice that is known.
@@ -280,11 +290,9 @@ impl Cases {
     fn every_row(&mut self) {
         let [_, packet, ..] = by_events();
         for packet in every_packet_fault(&packet) {
-            for (phase, last) in PHASES.into_iter().flat_map(|phase| COUNTERS.map(|last| (phase, last))) {
-                for (taken, place) in TAKEN.into_iter().flat_map(|taken| PLACES.map(|place| (taken, place))) {
-                    self.take(State { phase, last, taken, place }, &packet, LONGEST_LOG);
-                }
-            }
+            every_row().for_each(|state| {
+                self.take(state, &packet, LONGEST_LOG);
+            });
         }
     }
 
@@ -348,6 +356,13 @@ const PHASES: [u64; 10] = [0, 1, 2, 3, 255, 256, 1 << 32, 1 + (1 << 32), 1 << 63
 const COUNTERS: [u64; 11] = [0, 15, 16, 254, 255, 256, 1 << 32, 15 + (1 << 32), 255 + (1 << 32), 1 << 63, u64::MAX];
 const TAKEN: [u64; 7] = [0, MOST_TAKEN - 1, MOST_TAKEN, MOST_TAKEN + 1, 1 + (1 << 32), 1 << 63, u64::MAX];
 const PLACES: [usize; 8] = [0, ENTRY, ENTRY - 1, LONGEST_LOG + ENTRY, 1 << 32, 1 << 63, usize::MAX - 7, usize::MAX];
+
+/// Each of those with each other.
+fn every_row() -> impl Iterator<Item = State> {
+    let states = PHASES.into_iter().flat_map(|phase| COUNTERS.map(|last| State { phase, last, ..State::FIRST }));
+    let states = states.flat_map(|state| TAKEN.map(|taken| State { taken, ..state }));
+    states.flat_map(|state| PLACES.map(|place| State { place, ..state }))
+}
 
 // ---- Packets.
 

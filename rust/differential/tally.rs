@@ -23,6 +23,14 @@ pub struct Given<'a> {
     pub unchanged: bool,
 }
 
+/// A row with a guard on both sides.
+#[repr(C)]
+struct Guarded<const N: usize> {
+    left: u64,
+    row: [u64; N],
+    right: u64,
+}
+
 impl Given<'_> {
     fn agrees(&self, expected: &Answer) -> bool {
         let outs = if expected.number() == 0 { expected.values() } else { self.held };
@@ -139,6 +147,16 @@ impl Tally {
         let given = Given { word, held, outs, unchanged: lent.unchanged() };
         let agrees = word == whole.word() && given.outs == row && given.unchanged;
         self.take_check(whole, agrees, input, || format!("{given} for {row:?}"));
+    }
+
+    /// Calls an entry that fills a row with constants, in place of these numbers.
+    pub fn call_filling<const N: usize>(&mut self, constants: &[u64; N], entry: fn(&mut [u64; N]), before: [u64; N]) {
+        let guard = self.held(0);
+        let mut lent = Guarded { left: guard, row: before, right: guard };
+        entry(&mut lent.row);
+        let unchanged = (lent.left, lent.right) == (guard, guard);
+        let given = Given { word: 0, held: &before, outs: &lent.row, unchanged };
+        self.take(&Answer::done(constants), &given, || format!("{before:?}"));
     }
 
     /// Counts what a call gave; `input` is written out only where the answers differ.
