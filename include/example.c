@@ -13,7 +13,7 @@
 #define LOG_SIZE 16
 
 /* The state of each PID's event machine. */
-static uint64_t machines[PIDS][4];
+static uint64_t machines[PIDS][CMV_MACHINE_SIZE];
 
 static void print_time(const char *name, uint64_t number, uint64_t value) {
     if (number == CMV_DONE) {
@@ -63,11 +63,11 @@ static void take(unsigned long index, const uint8_t *packet, uint64_t pid) {
     uint8_t log[LOG_SIZE];
     uint64_t *machine = machines[pid];
     size_t at;
-    machine[2] = machine[3] = 0;
+    machine[CMV_MACHINE_TAKEN] = machine[CMV_MACHINE_PLACE] = 0;
     if (cmv_machine_step(machine, packet, CMV_PACKET_SIZE, log, LOG_SIZE) != CMV_DONE) {
         return;
     }
-    for (at = 0; at < machine[3]; at += 8) {
+    for (at = 0; at < machine[CMV_MACHINE_PLACE]; at += 8) {
         print_event(index, packet, log, at);
     }
 }
