@@ -230,9 +230,12 @@ pub rate-some : (n : ℕ) {w : ℕ} {lent left : List ℕ} (m : EsRateMade) (e :
     → givenRateNumber r ≡ rateBytes (e .0) → r ≡ k → Reports (givenRateNumber k) w lent left → Reports (rateBytes n) w lent left
 rate-some n m e r k p i q j t = reports-of givenRateNumber (q ∙ rate-kept n (e .0) (given-case givenRateMade p i)) j t
 
--- what `search` is given: any answer; two things made of numbers; a list of numbers that a call returns
+-- What `search` is given. For what a call, a match or a cast asks: `host-laws`. For what is reported: the laws of its shape and no others, so that
+-- a wrong answer is refused soon.
+pub ruleset answer-laws = (reports, number-as, truth-as, marker-reports, refused-any)
+
+pub ruleset made-laws = (wrap-reports, same-reports, number-none, number-some, follows-reports, rate-none, rate-some, answer-laws)
+
+pub ruleset list-laws = (scrambling-reports, id-values, id-reports, trick-values, last-as, four-as, answer-laws)
+
 pub ruleset host-laws = (reports, reports-as, number-as, truth-as, marker-reports, refused-any, needs)
-
-pub ruleset made-laws = (wrap-reports, same-reports, number-none, number-some, follows-reports, rate-none, rate-some, host-laws)
-
-pub ruleset list-laws = (scrambling-reports, id-values, id-reports, trick-values, last-as, four-as, host-laws)

@@ -1,4 +1,4 @@
-use Rattle.host.proofs.Laws.{reports-of, host-laws}
+use Rattle.host.proofs.Laws.{reports-of, answer-laws, host-laws}
 use Rattle.adaptation.specs.Extension.{givenSplice}
 use Rattle.host.proofs.of_adaptation.cmv_adaptation_extension_seamless_splice.Statement.{statement}
 use Rattle.host.proofs.of_adaptation.cmv_adaptation_extension_seamless_splice.Tie as tie
@@ -6,5 +6,5 @@ use Rattle.host.proofs.of_adaptation.cmv_adaptation_extension_seamless_
 pub cmv-adaptation-extension-seamless-splice-spec : {M : Type 1} → statement M
 cmv-adaptation-extension-seamless-splice-spec {M} = let answers = tie.spec {M = M} (λ c κs. search host-laws) (λ c. search host-laws) (λ c. search host-laws)
     (λ c κs. search host-laws) (λ c. search host-laws) (λ c. search host-laws) (λ c. search host-laws) (λ c. search host-laws) (λ c. search host-laws) (λ c. search host-laws)
-    (λ c. search (reports-of givenSplice, host-laws)) (λ c. search (reports-of givenSplice, host-laws)) (λ c. search (reports-of givenSplice, host-laws))
-    (λ c. search (reports-of givenSplice, host-laws)) in tie.close answers
+    (λ c. search (reports-of givenSplice, answer-laws)) (λ c. search (reports-of givenSplice, answer-laws)) (λ c. search (reports-of givenSplice, answer-laws))
+    (λ c. search (reports-of givenSplice, answer-laws)) in tie.close answers

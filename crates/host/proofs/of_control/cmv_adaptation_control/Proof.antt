@@ -4,5 +4,4 @@ use Rattle.host.proofs.of_control.cmv_adaptation_control.Statement.{sta
 use Rattle.host.proofs.of_control.cmv_adaptation_control.Tie as tie
 
 pub cmv-adaptation-control-spec : {M : Type 1} → statement M
-cmv-adaptation-control-spec {M} = let answers = tie.spec {M = M} (λ c κs. search host-laws) (λ c κs. search host-laws) (λ c. search (reports-at controlAnswer, host-laws))
-    in tie.close answers
+cmv-adaptation-control-spec {M} = let answers = tie.spec {M = M} (λ c κs. search host-laws) (λ c κs. search host-laws) (λ c. search (reports-at controlAnswer)) in tie.close answers

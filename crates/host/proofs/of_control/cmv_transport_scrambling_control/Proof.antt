@@ -4,5 +4,5 @@ use Rattle.host.proofs.of_control.cmv_transport_scrambling_control.Stat
 use Rattle.host.proofs.of_control.cmv_transport_scrambling_control.Tie as tie
 
 pub cmv-transport-scrambling-control-spec : {M : Type 1} → statement M
-cmv-transport-scrambling-control-spec {M} = let answers = tie.spec {M = M} (λ c κs. search host-laws) (λ c κs. search host-laws)
-    (λ c. search (reports-at scramblingAnswer, host-laws)) in tie.close answers
+cmv-transport-scrambling-control-spec {M} = let answers = tie.spec {M = M} (λ c κs. search host-laws) (λ c κs. search host-laws) (λ c. search (reports-at scramblingAnswer))
+    in tie.close answers

@@ -1,4 +1,4 @@
-use Rattle.host.proofs.Laws.{four-reports, host-laws}
+use Rattle.host.proofs.Laws.{four-reports, answer-laws, host-laws}
 use Rattle.packet.specs.Packet.{givenControl}
 use Rattle.host.specs.Clocks.{controlAnswer}
 use Rattle.host.proofs.of_packet.cmv_packet_adaptation_control.Statement.{statement}
@@ -6,5 +6,5 @@ use Rattle.host.proofs.of_packet.cmv_packet_adaptation_control.Tie as t
 
 pub cmv-packet-adaptation-control-spec : {M : Type 1} → statement M
 cmv-packet-adaptation-control-spec {M} = let answers = tie.spec {M = M} (λ c κs. search host-laws) (λ c. search host-laws) (λ c κs. search host-laws) (λ c. search host-laws)
-    (λ c. search host-laws) (λ c. search (four-reports controlAnswer givenControl, host-laws)) (λ c. search (four-reports controlAnswer givenControl, host-laws))
-    (λ c. search (four-reports controlAnswer givenControl, host-laws)) in tie.close answers
+    (λ c. search host-laws) (λ c. search (four-reports controlAnswer givenControl, answer-laws)) (λ c. search (four-reports controlAnswer givenControl, answer-laws))
+    (λ c. search (four-reports controlAnswer givenControl, answer-laws)) in tie.close answers
