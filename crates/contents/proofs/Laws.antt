@@ -582,21 +582,42 @@ module _ (b : ℕ) (l : b < 256) where
   reserved-mode p q x y z =
       simp (control-is (b / 32) refl, ne-eqb (b / 32) 0 p, ne-eqb (b / 32) 1 q, ne-eqb (b / 32) 2 x, ne-eqb (b / 32) 3 y, ne-eqb (b / 32) 4 z)
 
-pub ruleset contents-laws = (accepted, clock-done, clock-out, byte-wide, sum-wide, end-at, end-small, rate-in, rate-out, bytes-in, bytes-out, times-none, times-two, times-other, escr-skipped, escr-passed, rate-skipped, rate-passed, trick-skipped, trick-passed, copy-skipped, copy-passed, crc-skipped, crc-passed, first-flags, flag-at, last-flag, short, bad-check, past-buffer, past-header, all-on, refused, three-there, first-there, second-there, third-there, priority-done, scrambling-done, flags-done, length-done, bit-zero, bit-one, last-zero, last-one, end-in, payload-done, stamp-done, stamp-marker, stamp-short, stamp-prefix, no-part, extension-part, payload-part, fast-forward, slow-motion, freeze-frame, fast-reverse, slow-reverse, reserved-mode, needs)
+-- What `search` is given. For what a call, an index or a sum asks, of all functions and of those of one field:
+pub ruleset contents-laws = (accepted, three-there, first-there, second-there, third-there, byte-wide, sum-wide, end-in, needs)
 
--- those of one flagged field, so that `search` has less to compare
-pub ruleset field-laws = (accepted, refused-field, three-there, off, needs)
+pub ruleset times-laws = (pts-there, dts-there, first-of-two, contents-laws)
 
-pub ruleset times-laws = (accepted, refused-times, three-there, times-absent, times-invalid, pts-there, pts-alone, dts-there, first-of-two, pts-and-dts, needs)
+pub ruleset escr-laws = (escr-start, escr-room, contents-laws)
 
-pub ruleset escr-laws = (escr-start, escr-room, escr-done, field-laws)
+pub ruleset rate-laws = (rate-first, rate-later, contents-laws)
 
-pub ruleset rate-laws = (rate-first, rate-later, rate-done, field-laws)
+pub ruleset trick-laws = (trick-first, contents-laws)
 
-pub ruleset trick-laws = (trick-first, trick-done, raw-done, field-laws)
+pub ruleset copy-laws = (copy-first, contents-laws)
 
-pub ruleset copy-laws = (copy-first, copy-marker, copy-done, field-laws)
+pub ruleset crc-laws = (crc-first, crc-later, contents-laws)
 
-pub ruleset crc-laws = (crc-first, crc-later, crc-done, field-laws)
+pub ruleset extension-laws = (fields-in, contents-laws)
 
-pub ruleset extension-laws = (fields-in, extension-done, field-laws)
+-- For what is answered: the laws of its kind and no others, so that a wrong answer is refused soon.
+pub ruleset made-answers = (rate-in, rate-out, bytes-in, bytes-out)
+
+pub ruleset flag-answers = (first-flags, flag-at, last-flag)
+
+pub ruleset end-answers = (end-at, end-small, times-none, times-two, times-other, escr-skipped, escr-passed, rate-skipped, rate-passed, trick-skipped, trick-passed, copy-skipped, copy-passed, crc-skipped, crc-passed, arith)
+
+pub ruleset head-answers = (short, bad-check, past-buffer, past-header, all-on)
+
+pub ruleset fixed-answers = (accepted, refused, priority-done, scrambling-done, flags-done, length-done, bit-zero, bit-one, last-zero, last-one)
+
+pub ruleset times-answers = (accepted, refused-times, times-absent, times-invalid, pts-alone, pts-and-dts)
+
+pub ruleset field-answers = (accepted, refused-field, off, escr-done, rate-done, trick-done, raw-done, copy-marker, copy-done, crc-done, extension-done)
+
+pub ruleset part-answers = (accepted, refused, payload-done, no-part, extension-part, payload-part)
+
+pub ruleset clock-answers = (clock-done, clock-out)
+
+pub ruleset stamp-answers = (stamp-done, stamp-marker, stamp-short, stamp-prefix)
+
+pub ruleset mode-answers = (fast-forward, slow-motion, freeze-frame, fast-reverse, slow-reverse, reserved-mode)

@@ -1,4 +1,4 @@
-use Rattle.contents.proofs.Laws.{rate-laws}
+use Rattle.contents.proofs.Laws.{rate-laws, field-answers}
 use Rattle.contents.proofs.es_rate.Statement.{statement}
 use Rattle.contents.proofs.es_rate.Tie as tie
 
@@ -7,6 +7,6 @@ es-rate-spec {M} =
     let answers = tie.spec {M = M} (λ c κs. search rate-laws) (λ c. search rate-laws) (λ c. search rate-laws) (λ c κs. search rate-laws)
     (λ c κs. search rate-laws) (λ c. search rate-laws) (λ c κs. search rate-laws) (λ c. search rate-laws) (λ c. search rate-laws)
     (λ c κs. search rate-laws) (λ c. search rate-laws) (λ c. search rate-laws) (λ c κs. search rate-laws) (λ c. search rate-laws)
-    (λ c. search rate-laws) (λ c. search rate-laws) (λ c. search rate-laws) (λ c. search rate-laws) (λ c. search rate-laws)
-    (λ c. search rate-laws) (λ c. search rate-laws) in
+    (λ c. search rate-laws) (λ c. search rate-laws) (λ c. search rate-laws) (λ c. search rate-laws) (λ c. search field-answers)
+    (λ c. search field-answers) (λ c. search field-answers) in
     tie.close answers

@@ -1,4 +1,4 @@
-use Rattle.contents.proofs.Laws.{contents-laws}
+use Rattle.contents.proofs.Laws.{contents-laws, clock-answers}
 use Rattle.contents.proofs.escr_of.Statement.{statement}
 use Rattle.contents.proofs.escr_of.Tie as tie
 
@@ -9,5 +9,5 @@ escr-of-spec {M} =
     (λ c. search contents-laws) (λ c κs. search contents-laws) (λ c. search contents-laws) (λ c κs. search contents-laws) (λ c. search contents-laws) (λ c κs. search contents-laws) (λ c. search contents-laws)
     (λ c. search contents-laws) (λ c. search contents-laws) (λ c. search contents-laws) (λ c. search contents-laws) (λ c. search contents-laws) (λ c. search contents-laws) (λ c. search contents-laws)
     (λ c. search contents-laws) (λ c. search contents-laws) (λ c. search contents-laws) (λ c. search contents-laws) (λ c. search contents-laws) (λ c. search contents-laws) (λ c. search contents-laws)
-    (λ c κs. search contents-laws) (λ c. search contents-laws) (λ c. search contents-laws) (λ c. search contents-laws) (λ c. search contents-laws) in
+    (λ c κs. search contents-laws) (λ c. search contents-laws) (λ c. search contents-laws) (λ c. search clock-answers) (λ c. search clock-answers) in
     tie.close answers

@@ -1,4 +1,4 @@
-use Rattle.contents.proofs.Laws.{contents-laws}
+use Rattle.contents.proofs.Laws.{contents-laws, stamp-answers}
 use Rattle.contents.proofs.stamp_at.Statement.{statement}
 use Rattle.contents.proofs.stamp_at.Tie as tie
 
@@ -6,5 +6,5 @@ use Rattle.contents.proofs.stamp_at.Tie as tie
 pub stamp-at-spec : {M : Type 1} → statement M
 stamp-at-spec {M} =
     let answers = tie.spec {M = M} (λ c. search contents-laws) (λ c. search contents-laws) (λ c. search contents-laws) (λ c κs. search contents-laws) (λ c. search contents-laws) (λ c. search contents-laws) (λ c. search contents-laws)
-    (λ c. search contents-laws) (λ c. search contents-laws) (λ c. search contents-laws) (λ c. search contents-laws) (λ c. search contents-laws) in
+    (λ c. search contents-laws) (λ c. search stamp-answers) (λ c. search stamp-answers) (λ c. search stamp-answers) (λ c. search stamp-answers) in
     tie.close answers
