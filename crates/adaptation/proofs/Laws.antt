@@ -1,4 +1,4 @@
--- What the definitions of `specs/` come to on the bytes, in each case. The functions' proofs are `search adaptation-laws`: each premise is a
+-- What the definitions of `specs/` come to on the bytes, in each case. The functions' proofs look these up by `search`: each premise is a
 -- test or a promise that a need is handed, and the answer is as the code computes it.
 -- Assumes nothing.
 use mathlib.Core.Path.{_≡_, refl, sym, ap, _∙_}
@@ -245,4 +245,23 @@ module _ (xs : List ℕ) (k : ℕ) (q : k ≡ seamlessAt xs) (h : length xs ≡ 
   pub splice-prefix : (x y : ℕ) → r ≡ TimestampRead.IncorrectPrefixBits x y → answer 11 [] ≡ readSplice xs
   splice-prefix x y e = absurd (omega (arith, long _ e))
 
-pub ruleset adaptation-laws = (flag-clear, flag-on, last-off, last-on, flag-short, flag-done, empty, absent, short, short-at, unmeasured, cut-off, clock-read, clock-never, pcr-done, opcr-done, countdown-short, countdown-done, private-done, extension-empty, extension-done, extension-first, extension-next, extension-past, extension-small, no-part, private-part, extension-part, window-not-valid, window-valid, rate-done, splice-done, splice-marker, splice-short, splice-prefix, needs)
+-- What `search` is given for what is answered: the laws of its kind and no others, so that a wrong answer is refused soon.
+pub ruleset flag-answers = (flag-short, flag-done)
+
+pub ruleset field-answers = (flag-clear, flag-on, empty, absent, short, short-at)
+
+pub ruleset clock-answers = (clock-read, clock-never, pcr-done, opcr-done, field-answers)
+
+pub ruleset countdown-answers = (countdown-short, countdown-done, field-answers)
+
+pub ruleset measured-answers = (last-off, last-on, unmeasured, cut-off, private-done, extension-empty, extension-done, field-answers)
+
+pub ruleset offset-answers = (flag-clear, flag-on, extension-first, extension-next, extension-past, extension-small, needs)
+
+pub ruleset part-answers = (no-part, private-part, extension-part)
+
+pub ruleset window-answers = (window-not-valid, window-valid, field-answers)
+
+pub ruleset rate-answers = (rate-done, field-answers)
+
+pub ruleset splice-answers = (splice-done, splice-marker, splice-short, splice-prefix, field-answers)
