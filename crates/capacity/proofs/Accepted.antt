@@ -12,10 +12,9 @@ use Rattle.bits.specs.Answer.{answer, pick, truth}
 use Rattle.bits.specs.Numbers.{done}
 use Rattle.bits.proofs.Fields.{in-byte}
 use Rattle.control.specs.Control.{scrambling}
-use Rattle.packet.specs.Packet.{contentAt}
+use Rattle.packet.specs.Packet.{startFlag, contentAt}
 use Rattle.packet.proofs.Laws.{packet-is}
 use Rattle.pes.specs.Stream.{readId}
-use Rattle.machine.specs.Events.{startFlag}
 use Rattle.writer.specs.declared.Unit.{Unit}
 use Rattle.writer.specs.Unit.{dataOf, statedLength}
 use Rattle.writer.specs.Packets.{headerImage, carrier, carried}

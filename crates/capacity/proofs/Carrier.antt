@@ -16,9 +16,8 @@ use Rattle.bits.proofs.Bools.{truth-mod}
 use Rattle.bits.proofs.Fields.{field-one, field-right, byte-field, truth-bit}
 use Rattle.bits.proofs.Packs.{length-bytesOf, RowIn, RowFits, row-front}
 use Rattle.packet.specs.Packet.{pidField, counterField, adaptationFlag, payloadFlag, adaptationLength, adaptationThere, readAdaptation}
-use Rattle.packet.specs.Packet.{contentAt, payloadThere}
+use Rattle.packet.specs.Packet.{startFlag, contentAt, payloadThere}
 use Rattle.packet.proofs.Laws.{packet-is}
-use Rattle.machine.specs.Events.{startFlag}
 use Rattle.writer.specs.Packets.{packetTable, stuffing, carrier}
 use Rattle.writer.proofs.Laws.{stuffing-length}
 use Rattle.machine.specs.Run.{IsPacket}

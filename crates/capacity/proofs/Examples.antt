@@ -10,14 +10,14 @@ use Rattle.bits.specs.Answer.{partOf}
 use Rattle.bits.specs.Field.{bit, field}
 use Rattle.pes.specs.Stream.{parsedId}
 use Rattle.pes.specs.Head.{notHead, idOf}
-use Rattle.packet.specs.Packet.{payloadFlag, adaptationFlag, contentAt, payloadThere}
+use Rattle.packet.specs.Packet.{startFlag, payloadFlag, adaptationFlag, contentAt, payloadThere}
 use Rattle.contents.specs.Contents.{notContents, flagged, readPtsDts, dataLength, timesSize, escrAt, esRateAt, trickAt, copyInfoAt, crcAt}
 use Rattle.contents.specs.Contents.{fieldsEnd, payloadAt}
 use Rattle.log.specs.declared.Event.{Event}
 use Rattle.log.specs.Entry.{event, beginPacket}
 use Rattle.machine.specs.declared.Phase.the-variants.{Begin}
 use Rattle.machine.specs.declared.Last.the-variants.{Nothing}
-use Rattle.machine.specs.Events.{state, startFlag, headAccepted, continuous, begun, eventsOf, run}
+use Rattle.machine.specs.Events.{state, headAccepted, continuous, begun, eventsOf, run}
 use Rattle.machine.specs.Step.{fresh}
 use Rattle.pes_header.specs.Payload.{headerPayload, payloadBytes}
 use Rattle.gather.specs.Belongs.{eventBytes}

@@ -10,7 +10,7 @@ use lib.Dec.{eqb}
 use borrow.Author.Tests.{eqb-true}
 use Rattle.bits.specs.Answer.{Answer, answer, pick, partOf, All}
 use Rattle.bits.specs.Field.{bit, flag}
-use Rattle.packet.specs.Packet.{adaptationFlag, adaptationLength, contentAt, payloadThere}
+use Rattle.packet.specs.Packet.{startFlag, adaptationFlag, adaptationLength, contentAt, payloadThere}
 use Rattle.pes.specs.Stream.{parsedId}
 use Rattle.pes.specs.Head.{idOf}
 use Rattle.pes.proofs.Laws.{headed-done}
@@ -21,7 +21,7 @@ use Rattle.log.specs.declared.Event.{Event}
 use Rattle.log.specs.Entry.{beginPacket, continuePacket}
 use Rattle.machine.specs.declared.Phase.{Phase}
 use Rattle.machine.specs.declared.Phase.the-variants.{Begin, Started, IgnoreRest}
-use Rattle.machine.specs.Events.{State, startFlag, headAccepted, eventWithPayload, continuous, broken, settled, atStart, begun, continued, eventsOf}
+use Rattle.machine.specs.Events.{State, headAccepted, eventWithPayload, continuous, broken, settled, atStart, begun, continued, eventsOf}
 use Rattle.machine.specs.Events.{next, run}
 use Rattle.pes_header.specs.Payload.{headerPayload, payloadBytes}
 use Rattle.gather.specs.Belongs.{eventBytes}

@@ -2,28 +2,30 @@
 -- and callers' cite them. A premise is a test of the code, or a promise of what it calls.
 -- Assumes nothing.
 use mathlib.Core.Path.{_≡_, refl, sym, ap, _∙_}
-use mathlib.Core.Bool.{Bool, true, false}
-use mathlib.Core.List.{List, [], _∷_}
+use mathlib.Core.Bool.{Bool, true, false, not}
+use mathlib.Core.List.{List, [], _∷_, _++_}
 use Prim.Native.Nat.{ℕ, _+_, _-_, _/_, _%_, _≤_, _<_}
 use native.Mathlib.Omega.{arith}
 use lib.ListN.{length, getD}
 use lib.Dec.{eqb, leb, ltb}
-use borrow.Author.Tests.{lt-ltb, le-ltb, le-leb, lt-leb, eq-eqb, ne-eqb, ltb-true, leb-true, eqb-true}
+use borrow.Author.Tests.{lt-ltb, le-ltb, le-leb, lt-leb, eq-eqb, ne-eqb, ltb-true, leb-true, eqb-true, not-true, not-false}
 use borrow.Author.Needs.{needs}
 use mathlib.Core.Logic.{_⊎_, ⊎-elim}
 use types.Run.{OneOf}
 use denote.Enum.Declared.{tagOf}
-use Rattle.bits.specs.Answer.{Answer, answer, pick, truth, unless, Within, partAt, partOf}
+use Rattle.bits.specs.Answer.{Answer, answer, pick, truth, Check, unless, firstOf, other, Within, partAt, partOf}
 use Rattle.bits.specs.Field.{bit, flag}
 use Rattle.bits.proofs.Bools.{false-true, both}
-use Rattle.bits.proofs.Checks.{Off, none-holds, unless-within, eq-other, other-false}
+use Rattle.bits.proofs.Checks.{Off, none-holds, unless-within, firstOf-first, firstOf-past, ne-other, eq-other, other-false}
 use Rattle.bits.proofs.Fields.{flag-clear, flag-set, bitOf, in-byte, field-split, field-below, byte-field, Known, byte-wide}
 use Rattle.bits.proofs.Parts.{part-refused, part-done}
-use Rattle.control.specs.Control.{counterOf, pidOf}
+use Rattle.control.specs.Control.{hasAdaptationField, hasPayload, counterOf, pidOf}
 use Rattle.packet.specs.declared.PartRead.{PartRead}
 use Rattle.packet.proofs.PartRead.{the-type}
-use Rattle.packet.specs.Packet.{givenPart, notPacket, pidField, counterField, adaptationFlag, payloadFlag, adaptationLength}
-use Rattle.packet.specs.Packet.{adaptationThere, contentAt, payloadThere}
+use Rattle.packet.specs.declared.Tried.{Tried}
+use Rattle.packet.specs.Packet.{givenTried, givenPart, notPacket, pidField, counterField, adaptationFlag, payloadFlag, adaptationLength}
+use Rattle.packet.specs.Packet.{startBit, startFlag, startOf, afterField, adaptationThere, contentAt, payloadThere}
+use Rattle.packet.proofs.Theorems.{control-payload, control-adaptation}
 use Rattle.packet.specs.Packet.{tried, readFlag, readPid, readByteFour, readCounter, readAdaptation, readPayload}
 
 -- ---- a slice that is no packet
@@ -36,6 +38,36 @@ module _ (xs : List ℕ) (a : Answer) where
   pub no-sync : length xs ≡ 188 → (getD xs 0 0 ≡ 0x47 → ⊥) → answer 2 [] ≡ unless (notPacket xs) a
   unfolding notPacket
   no-sync l h = simp (eq-eqb (length xs) 188 l, ne-eqb (getD xs 0 0) 0x47 h)
+
+pub packet-off : (xs : List ℕ) → length xs ≡ 188 → getD xs 0 0 ≡ 0x47 → Off (notPacket xs)
+unfolding notPacket
+packet-off xs l s = (eq-other (length xs) 188 l, (eq-other (getD xs 0 0) 0x47 s, tt))
+
+-- .. before other refusals
+module _ (xs : List ℕ) (cs : List Check) where
+  pub first-length : (length xs ≡ 188 → ⊥) → 1 ≡ firstOf (notPacket xs ++ cs)
+  unfolding notPacket
+  first-length h = sym (firstOf-first (notPacket xs ++ cs) 0 tt (ne-other (length xs) 188 h))
+
+  module _ (l : length xs ≡ 188) where
+    pub first-sync : (getD xs 0 0 ≡ 0x47 → ⊥) → 2 ≡ firstOf (notPacket xs ++ cs)
+    unfolding notPacket
+    first-sync h = sym (firstOf-first (notPacket xs ++ cs) 1 (eq-other (length xs) 188 l, tt) (ne-other (getD xs 0 0) 0x47 h))
+
+    pub first-after : getD xs 0 0 ≡ 0x47 → firstOf (notPacket xs ++ cs) ≡ firstOf cs
+    first-after s = firstOf-past (notPacket xs) cs (packet-off xs l s)
+
+  -- .. by the answer of `try_new`
+  pub tried-first : (t : Tried) → givenTried t ≡ tried xs
+      → pick (eqb (givenTried t .number) 0) (firstOf cs) (givenTried t .number) ≡ firstOf (notPacket xs ++ cs)
+  unfolding notPacket
+  tried-first t e = go (other (length xs) 188) (other (getD xs 0 0) 0x47) _ (ap (λ (a : Answer). a .number) e)
+    where
+      go : (a b : Bool) (n : ℕ) → n ≡ pick a (answer 1 []) (pick b (answer 2 []) (answer 0 [])) .number
+          → pick (eqb n 0) (firstOf cs) n ≡ pick a 1 (pick b 2 (firstOf cs))
+      go true b n h = rw h
+      go false true n h = rw h
+      go false false n h = rw h
 
 -- ---- the header's fields, from the bytes
 
@@ -54,10 +86,10 @@ module _ (xs : List ℕ) where
         in-byte xs 2 0 8 0 refl,
       )
 
-  -- of a start flag, as a caller reads it
-  pub start-bit : eqb (getD xs 1 0 / 64 % 2) 1 ≡ flag xs 9
-  unfolding bit
-  start-bit = refl
+  -- payload_unit_start_indicator, of the second byte
+  pub start-is : startOf (getD xs 1 0) ≡ startFlag xs
+  unfolding startOf startFlag bit
+  start-is = refl
 
   pub counter-is : counterOf (getD xs 3 0) ≡ counterField xs
   unfolding counterOf counterField
@@ -67,21 +99,27 @@ module _ (xs : List ℕ) where
   unfolding counterField
   counter-below = omega (arith, field-below xs 28 4)
 
-  adaptation-set : (getD xs 3 0 / 32 % 2 ≡ 0 → ⊥) → adaptationFlag xs ≡ true
-  unfolding adaptationFlag
-  adaptation-set h = flag-set xs 26 (omega arith)
+  -- the bits of the fourth byte, by what the crate control reads there
+  module _ (k : ℕ) (b : Bool) (e : k ≡ getD xs 3 0) where
+    module _ (f : b ≡ hasAdaptationField k) where
+      pub adaptation-is : b ≡ adaptationFlag xs
+      adaptation-is = f ∙ (ap hasAdaptationField e ∙ control-adaptation xs)
 
-  adaptation-clear : getD xs 3 0 / 32 % 2 ≡ 0 → adaptationFlag xs ≡ false
-  unfolding adaptationFlag
-  adaptation-clear h = flag-clear xs 26 h
+      pub adaptation-set : not b ≡ false → adaptationFlag xs ≡ true
+      adaptation-set h = sym adaptation-is ∙ not-false b h
 
-  payload-set : (getD xs 3 0 / 16 % 2 ≡ 0 → ⊥) → payloadFlag xs ≡ true
-  unfolding payloadFlag
-  payload-set h = flag-set xs 27 (omega arith)
+      pub adaptation-clear : not b ≡ true → adaptationFlag xs ≡ false
+      adaptation-clear h = sym adaptation-is ∙ not-true b h
 
-  payload-clear : getD xs 3 0 / 16 % 2 ≡ 0 → payloadFlag xs ≡ false
-  unfolding payloadFlag
-  payload-clear h = flag-clear xs 27 h
+    module _ (f : b ≡ hasPayload k) where
+      pub payload-flag-is : b ≡ payloadFlag xs
+      payload-flag-is = f ∙ (ap hasPayload e ∙ control-payload xs)
+
+      pub payload-set : not b ≡ false → payloadFlag xs ≡ true
+      payload-set h = sym payload-flag-is ∙ not-false b h
+
+      pub payload-clear : not b ≡ true → payloadFlag xs ≡ false
+      payload-clear h = sym payload-flag-is ∙ not-true b h
 
   length-is : Known xs → adaptationLength xs ≡ getD xs 4 0
   unfolding adaptationLength
@@ -91,7 +129,7 @@ module _ (xs : List ℕ) where
   unfolding contentAt
   content-plain h = simp h
 
-  pub content-after : Known xs → adaptationFlag xs ≡ true → contentAt xs ≡ 5 + getD xs 4 0
+  pub content-after : Known xs → adaptationFlag xs ≡ true → contentAt xs ≡ afterField (getD xs 4 0)
   unfolding contentAt
   content-after k h = simp (h, length-is k)
 
@@ -100,15 +138,17 @@ module _ (xs : List ℕ) where
   unfolding payloadThere
   payload-below h = ltb-true (contentAt xs) 188 (both (payloadFlag xs) (ltb (contentAt xs) 188) h .1)
 
+-- ---- what is read of a byte
+
+pub start-bit : (b : ℕ) → eqb (b / 64 % 2) 1 ≡ startOf b
+unfolding startOf bit
+start-bit b = refl
+
 -- ---- what is read of a packet
 
 module _ (xs : List ℕ) (l : length xs ≡ 188) (s : getD xs 0 0 ≡ 0x47) where
-  pub packet-off : Off (notPacket xs)
-  unfolding notPacket
-  packet-off = (eq-other (length xs) 188 l, (eq-other (getD xs 0 0) 0x47 s, tt))
-
   pub packet-is : (a : Answer) → unless (notPacket xs) a ≡ a
-  packet-is a = none-holds (notPacket xs) packet-off a
+  packet-is a = none-holds (notPacket xs) (packet-off xs l s) a
 
   pub tried-done : answer 0 [] ≡ tried xs
   tried-done = sym (packet-is _)
@@ -119,6 +159,10 @@ module _ (xs : List ℕ) (l : length xs ≡ 188) (s : getD xs 0 0 ≡ 0x47) wher
   pub flag-done : (n i : ℕ) → n ≡ truth (eqb (bitOf xs i) 1) → answer 0 (n ∷ []) ≡ readFlag i xs
   unfolding bit
   flag-done n i e = value-done n _ e
+
+  pub start-done : (b : Bool) → b ≡ startOf (getD xs 1 0) → answer 0 (truth b ∷ []) ≡ readFlag startBit xs
+  unfolding startFlag
+  start-done b e = value-done _ _ (ap truth (e ∙ start-is xs))
 
   pub pid-done : (n : ℕ) → n ≡ pidOf (getD xs 1 0) (getD xs 2 0) → answer 0 (n ∷ []) ≡ readPid xs
   pid-done n e = value-done n _ (e ∙ pid-is xs)
@@ -136,59 +180,53 @@ module _ (xs : List ℕ) (l : length xs ≡ 188) (s : getD xs 0 0 ≡ 0x47) wher
   payload-is : (b : Bool) (k : ℕ) → contentAt xs ≡ k → payloadThere xs ≡ b → pick b (answer 0 (k ∷ (188 - k) ∷ [])) (answer 9 []) ≡ readPayload xs
   payload-is b k e f = sym (packet-is _ ∙ rw (f, e))
 
-  pub field-off : Known xs → getD xs 3 0 / 32 % 2 ≡ 0 → answer 9 [] ≡ readAdaptation xs
+  pub field-off : Known xs → adaptationFlag xs ≡ false → answer 9 [] ≡ readAdaptation xs
   unfolding adaptationThere
-  field-off k h = field-is false k (simp (adaptation-clear xs h))
+  field-off k f = field-is false k (simp f)
 
-  module _ (k : Known xs) (f : getD xs 3 0 / 32 % 2 ≡ 0 → ⊥) (p : getD xs 3 0 / 16 % 2 ≡ 0) where
-    pub alone-other : (getD xs 4 0 ≡ 183 → ⊥) → answer 9 [] ≡ readAdaptation xs
-    unfolding adaptationThere
-    alone-other h = field-is false k (simp (adaptation-set xs f, payload-clear xs p, length-is xs k, ne-eqb (getD xs 4 0) 183 h))
+  module _ (k : Known xs) (f : adaptationFlag xs ≡ true) where
+    module _ (p : payloadFlag xs ≡ false) where
+      pub alone-other : (getD xs 4 0 ≡ 183 → ⊥) → answer 9 [] ≡ readAdaptation xs
+      unfolding adaptationThere
+      alone-other h = field-is false k (simp (f, p, length-is xs k, ne-eqb (getD xs 4 0) 183 h))
 
-    pub alone-whole : getD xs 4 0 ≡ 183 → answer 0 (5 ∷ getD xs 4 0 ∷ []) ≡ readAdaptation xs
-    unfolding adaptationThere
-    alone-whole h = field-is true k (simp (adaptation-set xs f, payload-clear xs p, length-is xs k, eq-eqb (getD xs 4 0) 183 h))
+      pub alone-whole : getD xs 4 0 ≡ 183 → answer 0 (5 ∷ getD xs 4 0 ∷ []) ≡ readAdaptation xs
+      unfolding adaptationThere
+      alone-whole h = field-is true k (simp (f, p, length-is xs k, eq-eqb (getD xs 4 0) 183 h))
 
-  module _ (k : Known xs) (f : getD xs 3 0 / 32 % 2 ≡ 0 → ⊥) (p : getD xs 3 0 / 16 % 2 ≡ 0 → ⊥) where
-    pub beside-empty : getD xs 4 0 ≡ 0 → answer 9 [] ≡ readAdaptation xs
-    unfolding adaptationThere
-    beside-empty h = field-is false k (simp (adaptation-set xs f, payload-set xs p, length-is xs k, lt-leb 1 (getD xs 4 0) (omega arith)))
+    module _ (p : payloadFlag xs ≡ true) where
+      pub beside-empty : getD xs 4 0 ≡ 0 → answer 9 [] ≡ readAdaptation xs
+      unfolding adaptationThere
+      beside-empty h = field-is false k (simp (f, p, length-is xs k, lt-leb 1 (getD xs 4 0) (omega arith)))
 
-    pub beside-long : 182 < getD xs 4 0 → answer 9 [] ≡ readAdaptation xs
-    unfolding adaptationThere
-    beside-long h =
-        field-is false k
-        (simp (adaptation-set xs f, payload-set xs p, length-is xs k, le-leb 1 (getD xs 4 0) (omega arith), lt-leb (getD xs 4 0) 182 h))
+      pub beside-long : 182 < getD xs 4 0 → answer 9 [] ≡ readAdaptation xs
+      unfolding adaptationThere
+      beside-long h = field-is false k (simp (f, p, length-is xs k, le-leb 1 (getD xs 4 0) (omega arith), lt-leb (getD xs 4 0) 182 h))
 
-    pub beside-given : (getD xs 4 0 ≡ 0 → ⊥) → getD xs 4 0 ≤ 182 → answer 0 (5 ∷ getD xs 4 0 ∷ []) ≡ readAdaptation xs
-    unfolding adaptationThere
-    beside-given n h =
-        field-is true k
-        (simp (adaptation-set xs f, payload-set xs p, length-is xs k, le-leb 1 (getD xs 4 0) (omega arith), le-leb (getD xs 4 0) 182 h))
+      pub beside-given : (getD xs 4 0 ≡ 0 → ⊥) → getD xs 4 0 ≤ 182 → answer 0 (5 ∷ getD xs 4 0 ∷ []) ≡ readAdaptation xs
+      unfolding adaptationThere
+      beside-given n h = field-is true k (simp (f, p, length-is xs k, le-leb 1 (getD xs 4 0) (omega arith), le-leb (getD xs 4 0) 182 h))
 
-  pub payload-off : getD xs 3 0 / 16 % 2 ≡ 0 → answer 9 [] ≡ readPayload xs
+  pub payload-off : payloadFlag xs ≡ false → answer 9 [] ≡ readPayload xs
   unfolding payloadThere
-  payload-off h = payload-is false (contentAt xs) refl (simp (payload-clear xs h))
+  payload-off p = payload-is false (contentAt xs) refl (simp p)
 
-  module _ (p : getD xs 3 0 / 16 % 2 ≡ 0 → ⊥) where
-    pub payload-plain : getD xs 3 0 / 32 % 2 ≡ 0 → answer 0 (4 ∷ 184 ∷ []) ≡ readPayload xs
+  module _ (p : payloadFlag xs ≡ true) where
+    pub payload-plain : adaptationFlag xs ≡ false → answer 0 (4 ∷ 184 ∷ []) ≡ readPayload xs
     unfolding payloadThere
-    payload-plain h = let e = content-plain xs (adaptation-clear xs h) in payload-is true 4 e (simp (payload-set xs p, e))
+    payload-plain f = let e = content-plain xs f in payload-is true 4 e (simp (p, e))
 
-    module _ (k : Known xs) (f : getD xs 3 0 / 32 % 2 ≡ 0 → ⊥) where
-      after : contentAt xs ≡ 5 + getD xs 4 0
-      after = content-after xs k (adaptation-set xs f)
+    module _ (k : Known xs) (f : adaptationFlag xs ≡ true) (a : ℕ) (i : a ≡ afterField (getD xs 4 0)) where
+      starts : contentAt xs ≡ a
+      starts = content-after xs k f ∙ sym i
 
-      pub payload-past : 183 ≤ getD xs 4 0 → answer 9 [] ≡ readPayload xs
+      pub payload-past : 188 ≤ a → answer 9 [] ≡ readPayload xs
       unfolding payloadThere
-      payload-past h =
-          payload-is false (contentAt xs) refl (simp (payload-set xs p, after, le-ltb (5 + getD xs 4 0) 188 (omega arith)))
+      payload-past h = payload-is false a starts (simp (p, starts, le-ltb a 188 h))
 
-      pub payload-after : getD xs 4 0 < 183 → answer 0 ((5 + getD xs 4 0) ∷ (183 - getD xs 4 0) ∷ []) ≡ readPayload xs
+      pub payload-after : a < 188 → answer 0 (a ∷ (188 - a) ∷ []) ≡ readPayload xs
       unfolding payloadThere
-      payload-after h =
-          let e : 183 - getD xs 4 0 ≡ 188 - (5 + getD xs 4 0) = omega arith in
-          rw e (payload-is true (5 + getD xs 4 0) after (simp (payload-set xs p, after, lt-ltb (5 + getD xs 4 0) 188 (omega arith))))
+      payload-after h = payload-is true a starts (simp (p, starts, lt-ltb a 188 h))
 
 -- ---- both parts lie within the packet
 
@@ -234,4 +272,11 @@ module _ (xs ys : List ℕ) (r : PartRead) where
     pub payload-part : givenPart r ≡ readPayload xs → ys ≡ partOf (readPayload xs) xs
     payload-part g = f ∙ part-done _ _ p n (ap givenPart (sym e) ∙ g) (payload-within xs)
 
-pub ruleset packet-laws = (wrong-length, no-sync, tried-done, flag-done, pid-done, four-done, counter-done, byte-wide, field-off, alone-other, alone-whole, beside-empty, beside-long, beside-given, payload-off, payload-plain, payload-past, payload-after, no-part, adaptation-part, payload-part, needs)
+-- what the functions' proofs search: of the adaptation field and of the payload by sets of their own, in which less is tried
+pub ruleset packet-laws = (wrong-length, no-sync, tried-done, flag-done, start-bit, start-done, pid-done, four-done, counter-done, no-part, adaptation-part, payload-part, needs)
+
+pub ruleset flag-laws = (wrong-length, no-sync, byte-wide, adaptation-set, adaptation-clear, payload-set, payload-clear, needs)
+
+pub ruleset field-laws = (field-off, alone-other, beside-empty, beside-long, flag-laws)
+
+pub ruleset payload-laws = (payload-off, payload-plain, payload-past, payload-after, flag-laws)

@@ -78,6 +78,13 @@ startBit = 9
 abbrev pub priorityBit : ℕ
 priorityBit = 10
 
+-- payload_unit_start_indicator: of a packet, and of its second byte, which has transport_error_indicator before it
+unfoldable pub startFlag : List ℕ → Bool
+startFlag xs = flag xs startBit
+
+unfoldable pub startOf : ℕ → Bool
+startOf b = flag (b ∷ []) 1
+
 abbrev pub readFlag : ℕ → List ℕ → Answer
 readFlag i xs = unless (notPacket xs) (answer done (truth (flag xs i) ∷ []))
 
@@ -118,9 +125,13 @@ adaptationThere xs =
 abbrev pub readAdaptation : List ℕ → Answer
 readAdaptation xs = unless (notPacket xs) (pick (adaptationThere xs) (answer done (5 ∷ adaptationLength xs ∷ [])) (answer fieldNotPresent []))
 
+-- where the content starts after an adaptation field of this length: the header has 4 bytes, and adaptation_field_length is the fifth
+abbrev pub afterField : ℕ → ℕ
+afterField n = 5 + n
+
 -- where the content after the header and the adaptation field starts
 unfoldable pub contentAt : List ℕ → ℕ
-contentAt xs = pick (adaptationFlag xs) (5 + adaptationLength xs) 4
+contentAt xs = pick (adaptationFlag xs) (afterField (adaptationLength xs)) 4
 
 -- a payload is there where its flag is set and the content starts below 188
 unfoldable pub payloadThere : List ℕ → Bool

@@ -3,8 +3,8 @@ ghost use mathlib.Core.Path.{_≡_};
 ghost use lib.Dec.{eqb};
 ghost use Rattle.bits.specs.Answer.{partOf};
 ghost use Rattle.packet.specs.Packet.{givenTried, givenFlag, givenPid, givenScrambling, givenControl, givenCounter, givenPart};
-ghost use Rattle.packet.specs.Packet.{tried, readFlag, errorBit, startBit, priorityBit, readPid, readByteFour, readCounter};
-ghost use Rattle.packet.specs.Packet.{readAdaptation, readPayload};
+ghost use Rattle.packet.specs.Packet.{tried, readFlag, errorBit, startBit, priorityBit, startOf, readPid, readByteFour, readCounter};
+ghost use Rattle.packet.specs.Packet.{afterField, readAdaptation, readPayload};
 use bits::part;
 use control::AdaptationControl;
 use control::ContinuityCounter;
@@ -16,6 +16,9 @@ pub const SYNC_BYTE: u8 = 0x47;
 
 // The size of every packet, in bytes.
 pub const SIZE: usize = 188;
+
+// The size of every packet's header, in bytes: the content starts after it where there is no adaptation field.
+pub const HEADER_SIZE: usize = 4;
 
 pub enum Tried {
     Done,
@@ -67,6 +70,20 @@ pub fn is_sync_byte(b: u8) -> bool
     b == SYNC_BYTE
 }
 
+// payload_unit_start_indicator, of a packet's second byte.
+pub fn start_indicator(second: u8) -> bool
+    ensures { λ r. ⌜ r ≡ startOf second ⌝ }
+{
+    second / 64 % 2 == 1
+}
+
+// Where the content starts after an adaptation field, of the field's length byte: a packet's fifth.
+pub fn content_after(fifth: u8) -> usize
+    ensures { λ r. ⌜ r ≡ afterField fifth ⌝ }
+{
+    HEADER_SIZE + 1 + fifth as usize
+}
+
 // Whether the slice is a packet at all.
 pub fn try_new(buf: &[u8]) -> Tried
     ensures { λ r. ⌜ givenTried r ≡ tried (now (buf .entry)) ⌝ }
@@ -101,7 +118,7 @@ pub fn payload_unit_start_indicator(buf: &[u8]) -> FlagRead
     if buf[0] != SYNC_BYTE {
         return FlagRead::NoSync;
     }
-    FlagRead::Done(buf[1] / 64 % 2 == 1)
+    FlagRead::Done(start_indicator(buf[1]))
 }
 
 pub fn transport_priority(buf: &[u8]) -> FlagRead
@@ -174,12 +191,12 @@ pub fn adaptation_field_at(buf: &[u8]) -> PartRead
     if buf[0] != SYNC_BYTE {
         return PartRead::NoSync;
     }
-    let control = buf[3];
+    let control = AdaptationControl::new(buf[3]);
     let length = buf[4] as usize;
-    if control / 32 % 2 == 0 {
+    if !control.has_adaptation_field() {
         return PartRead::FieldNotPresent;
     }
-    if control / 16 % 2 == 0 {
+    if !control.has_payload() {
         if length != 183 {
             return PartRead::FieldNotPresent;
         }
@@ -214,23 +231,23 @@ pub fn payload_at(buf: &[u8]) -> PartRead
     if buf[0] != SYNC_BYTE {
         return PartRead::NoSync;
     }
-    let control = buf[3];
-    if control / 16 % 2 == 0 {
+    let control = AdaptationControl::new(buf[3]);
+    if !control.has_payload() {
         return PartRead::FieldNotPresent;
     }
-    if control / 32 % 2 == 0 {
+    if !control.has_adaptation_field() {
         return PartRead::Done {
-            place: 4,
-            length: 184,
+            place: HEADER_SIZE,
+            length: SIZE - HEADER_SIZE,
         };
     }
-    let length = buf[4] as usize;
-    if 183 <= length {
+    let place = content_after(buf[4]);
+    if SIZE <= place {
         return PartRead::FieldNotPresent;
     }
     PartRead::Done {
-        place: 5 + length,
-        length: 183 - length,
+        place,
+        length: SIZE - place,
     }
 }
 

@@ -9,13 +9,13 @@ use Prim.Native.Nat.{ℕ, suc, _+_, _-_, _≤_, _<_}
 use native.Mathlib.Omega.{arith}
 use lib.ListN.{length, drop}
 use Rattle.bits.specs.Answer.{pick, All}
-use Rattle.packet.specs.Packet.{contentAt, payloadThere}
+use Rattle.packet.specs.Packet.{startFlag, contentAt, payloadThere}
 use Rattle.packet.proofs.Laws.{payload-below}
 use Rattle.log.specs.declared.Event.{Event}
 use Rattle.log.specs.Entry.{event}
 use Rattle.machine.specs.declared.Phase.{Phase}
 use Rattle.machine.specs.declared.Phase.the-variants.{Begin, Started, IgnoreRest}
-use Rattle.machine.specs.Events.{State, startFlag, headAccepted, continuous, settled, broken, atStart, begun, continued, eventsOf}
+use Rattle.machine.specs.Events.{State, headAccepted, continuous, settled, broken, atStart, begun, continued, eventsOf}
 use Rattle.machine.specs.Events.{phaseAfter, next, run}
 use Rattle.machine.specs.Run.{IsPacket}
 use Rattle.gather.specs.declared.Lies.the-variants.{Store}

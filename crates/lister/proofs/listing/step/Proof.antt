@@ -1,26 +1,19 @@
 -- A packet gives at most two entries, of eight bytes each.
 use mathlib.Core.Path.{_≡_, refl, sym, ap, _∙_}
-use mathlib.Core.Bool.{Bool, true, false}
 use mathlib.Core.List.{List}
-use Prim.Native.Nat.{ℕ, _≤_}
+use Prim.Native.Nat.{ℕ}
 use native.Mathlib.Omega.{arith}
 use lib.ListN.{length}
 use borrow.Author.Needs.{needs}
-use Rattle.bits.specs.Answer.{pick}
 use Rattle.machine.specs.declared.Machine.{Machine}
-use Rattle.machine.specs.Events.{startFlag}
 use Rattle.machine.specs.Step.{Outcome, stateOf, numberOf, stepOf}
 use Rattle.machine.proofs.Laws.{never-full}
-use Rattle.machine.proofs.Theorems.{at-most}
+use Rattle.machine.proofs.Theorems.{at-most-two}
 use Rattle.lister.proofs.listing.step.Statement.{statement}
 use Rattle.lister.proofs.listing.step.Tie as tie
 
-two : (s : Bool) → pick s 2 1 ≤ 2
-two true = omega arith
-two false = omega arith
-
 room-for-two : (m : Machine) (p l : List ℕ) → m .place ≡ 0 → length l ≡ 16 → numberOf m p l ≡ 15 → ⊥
-room-for-two m p l z n = never-full m p l (omega (arith, at-most (m .taken) (stateOf m) p, two (startFlag p)))
+room-for-two m p l z n = never-full m p l (omega (arith, at-most-two (m .taken) (stateOf m) p))
 
 returns : tie.Need-returns
 unfolding stepOf
