@@ -2,7 +2,7 @@
 -- Assumes nothing.
 use mathlib.Core.Path.{_≡_, refl, sym, ap, _∙_}
 use mathlib.Core.Bool.{Bool, true, false, _||_}
-use mathlib.Core.List.{List, [], _∷_, _++_}
+use mathlib.Core.List.{List, [], _∷_}
 use Prim.Native.Nat.{ℕ, _+_, _-_, _≤_, _<_}
 use native.Mathlib.Omega.{arith}
 use types.Run.{OneOf, miss}
@@ -11,12 +11,10 @@ use lib.ListN.{length, getD, take, drop}
 use lib.Dec.{eqb, leb, ltb}
 use borrow.Author.Needs.{needs}
 use borrow.Author.Tests.{lt-ltb, le-ltb, ltb-true, ltb-false, le-leb, lt-leb, leb-true, leb-false, eq-eqb, ne-eqb, eqb-true, eqb-false}
-use Rattle.bits.specs.Answer.{Answer, answer, pick, Check, firstOf, partAt, placedAt}
+use Rattle.bits.specs.Answer.{Answer, answer, pick, partAt, placedAt}
 use Rattle.bits.proofs.Bools.{both, not-both, tested, neither-holds}
-use Rattle.bits.proofs.Checks.{ne-other, eq-other, firstOf-first, firstOf-past}
 use Rattle.bits.proofs.Parts.{part-in, part-cut, part-length, part-of-part, part-refused, part-done, placed-none, placed-out}
-use Rattle.packet.specs.Packet.{notPacket}
-use Rattle.packet.proofs.Laws.{packet-off}
+use Rattle.packet.proofs.Laws.{first-length, first-sync, first-after}
 use Rattle.pes_header.specs.declared.PayloadRead.{PayloadRead}
 use Rattle.pes_header.specs.Payload.{givenPayload, headerPayload, payloadBytes}
 use Rattle.pes_header.proofs.PayloadRead.{the-type as payload-type}
@@ -117,37 +115,24 @@ module _ (g : Gathering) (room : ℕ) where
   pub stands-gathering : g .count ≤ room → leavesPacket (g .lies) (g .count) ≡ false → wrongGathering g room ≡ false
   stands-gathering h k = sym (in-store h) ∙ k
 
--- checks that come after those of the packet
-module _ (p : List ℕ) (cs : List Check) where
-  short-packet : (length p ≡ 188 → ⊥) → firstOf (notPacket p ++ cs) ≡ 1
-  unfolding notPacket
-  short-packet h = firstOf-first (notPacket p ++ cs) 0 tt (ne-other (length p) 188 h)
-
-  unsynced : length p ≡ 188 → (getD p 0 0 ≡ 71 → ⊥) → firstOf (notPacket p ++ cs) ≡ 2
-  unfolding notPacket
-  unsynced l h = firstOf-first (notPacket p ++ cs) 1 (eq-other (length p) 188 l, tt) (ne-other (getD p 0 0) 71 h)
-
-  past-packet : length p ≡ 188 → getD p 0 0 ≡ 71 → firstOf (notPacket p ++ cs) ≡ firstOf cs
-  past-packet l h = firstOf-past (notPacket p) cs (packet-off p l h)
-
 -- ---- the bytes so far
 
 module _ (g : Gathering) (p s : List ℕ) where
   pub read-length : (length p ≡ 188 → ⊥) → 1 ≡ readOf g p s
   unfolding readOf notRead
-  read-length h = sym (short-packet p _ h)
+  read-length h = first-length p _ h
 
   pub read-sync : length p ≡ 188 → (getD p 0 0 ≡ 71 → ⊥) → 2 ≡ readOf g p s
   unfolding readOf notRead
-  read-sync l h = sym (unsynced p _ l h)
+  read-sync l h = first-sync p _ l h
 
   pub read-out : length p ≡ 188 → getD p 0 0 ≡ 71 → wrongGathering g (length s) ≡ true → 14 ≡ readOf g p s
   unfolding readOf notRead
-  read-out l h e = sym (past-packet p _ l h ∙ rw e)
+  read-out l h e = sym (first-after p _ l h ∙ rw e)
 
   pub read-done : length p ≡ 188 → getD p 0 0 ≡ 71 → wrongGathering g (length s) ≡ false → 0 ≡ readOf g p s
   unfolding readOf notRead
-  read-done l h e = sym (past-packet p _ l h ∙ rw e)
+  read-done l h e = sym (first-after p _ l h ∙ rw e)
 
   pub bytes-are : (l : Lies) (r : List ℕ) → readOf g p s ≡ 0 → g .lies ≡ l → r ≡ lying l (g .count) p s → r ≡ heldBytes g p s
   unfolding heldBytes
@@ -338,30 +323,30 @@ module _ (g : Gathering) (p : List ℕ) (e : Event) (s : List ℕ) where
 
   pub wrong-length : (length p ≡ 188 → ⊥) → Meets g p e s (gatherOutcome 1 g) s
   unfolding gatherNumber notGathered
-  wrong-length h = refused 1 (short-packet p _ h) refl refl
+  wrong-length h = refused 1 (sym (first-length p _ h)) refl refl
 
   module _ (l : length p ≡ 188) where
     pub no-sync : (getD p 0 0 ≡ 71 → ⊥) → Meets g p e s (gatherOutcome 2 g) s
     unfolding gatherNumber notGathered
-    no-sync h = refused 2 (unsynced p _ l h) refl refl
+    no-sync h = refused 2 (sym (first-sync p _ l h)) refl refl
 
     module _ (y : getD p 0 0 ≡ 71) where
       pub bad-event : wrongEvent e ≡ true → Meets g p e s (gatherOutcome 14 g) s
       unfolding gatherNumber notGathered
-      bad-event h = refused 14 (past-packet p _ l y ∙ rw h) refl refl
+      bad-event h = refused 14 (first-after p _ l y ∙ rw h) refl refl
 
       pub bad-gathering : wrongEvent e ≡ false → wrongGathering g (length s) ≡ true → Meets g p e s (gatherOutcome 14 g) s
       unfolding gatherNumber notGathered
-      bad-gathering h k = refused 14 (past-packet p _ l y ∙ rw (h, k)) refl refl
+      bad-gathering h k = refused 14 (first-after p _ l y ∙ rw (h, k)) refl refl
 
   module _ (h : CallStands g p e s) where
     number-full : length s < kept g e + length (added g p e) → gatherNumber g p e s ≡ 20
     unfolding gatherNumber notGathered
-    number-full k = past-packet p _ (h .0) (h .1) ∙ rw (h .2, h .3, lt-ltb (length s) (kept g e + length (added g p e)) k)
+    number-full k = first-after p _ (h .0) (h .1) ∙ rw (h .2, h .3, lt-ltb (length s) (kept g e + length (added g p e)) k)
 
     pub number-done : kept g e + length (added g p e) ≤ length s → gatherNumber g p e s ≡ 0
     unfolding gatherNumber notGathered
-    number-done k = past-packet p _ (h .0) (h .1) ∙ rw (h .2, h .3, le-ltb (length s) (kept g e + length (added g p e)) k)
+    number-done k = first-after p _ (h .0) (h .1) ∙ rw (h .2, h .3, le-ltb (length s) (kept g e + length (added g p e)) k)
 
     pub full : length s < kept g e + length (added g p e) → Meets g p e s (gatherOutcome 20 emptied) s
     unfolding gatherOf storeOf
