@@ -20,7 +20,7 @@ use Rattle.pes.specs.Head.{notHead, idOf, packetLength}
 use Rattle.contents.specs.Contents.{dataLength, timesSize, escrAt, esRateAt, trickAt, copyInfoAt, crcAt, fieldsEnd, payloadAt, readFixed}
 use Rattle.contents.specs.Contents.{scramblingBit, dataLengthBit, escrBit, esRateBit, trickBit, copyInfoBit, crcBit}
 use Rattle.contents.specs.Contents.{readContents, readPtsDts, readEscr, readEsRate, readCopyInfo, readCrc, readPesExtension}
-use Rattle.contents.specs.Layout.{rateTable, trickTable, copyTable, crcTable}
+use Rattle.contents.specs.Layout.{esRateBytes, trickBytes, copyInfoBytes, crcBytes}
 use Rattle.contents.specs.Trick.{readRawTrick}
 use Rattle.contents.proofs.Laws.{Accepted, contents-is, field-off}
 use Rattle.contents.proofs.Theorems.{escr-at-back, rate-at-back, trick-at-back, copy-info-at-back, crc-at-back}
@@ -32,7 +32,7 @@ use Rattle.writer.specs.declared.Unit.{Unit}
 use Rattle.writer.specs.Unit.{Field, absent, holds, rateField, byteField, crcField, timesFlags, escrFlag, fieldFlag, timesBytes, dataOf}
 use Rattle.writer.specs.Unit.{statedLength}
 use Rattle.writer.specs.Packets.{headTable, timesImage, escrImage, image, fieldsImage, headerImage}
-use Rattle.writer.proofs.Laws.{times-length, escr-length, image-length, header-length}
+use Rattle.writer.proofs.Laws.{times-length, escr-length, rate-length, trick-length, copy-length, crc-length, header-length}
 use Rattle.capacity.specs.Reads.{writtenTimes, writtenEscr, writtenField, writtenBit, contents, HasFields}
 use Rattle.capacity.specs.Demand.{atMost}
 use Rattle.capacity.proofs.Permits.{TimesFit, EscrFits, UnitFits}
@@ -142,25 +142,25 @@ module _ (c rest : List ℕ) (h : Accepted c) where
   escr-read Escr.Absent k f e = sym (field-off c escrBit _ h f)
   escr-read (Escr.Present b x) k f e = escr-at-back c rest accepts b x (k .0) (omega arith) (on escrBit f) e
 
-  rate-read : (f : Field) → atMost (2 ^ 22 - 1) f → bit c esRateBit ≡ fieldFlag f → drop (esRateAt c) c ≡ image 3 rateTable f ++ rest
+  rate-read : (f : Field) → atMost (2 ^ 22 - 1) f → bit c esRateBit ≡ fieldFlag f → drop (esRateAt c) c ≡ image esRateBytes f ++ rest
       → readEsRate c ≡ writtenField f
   unfolding image
   rate-read absent k f e = sym (field-off c esRateBit _ h f)
   rate-read (holds v) k f e = rate-at-back c rest accepts v (omega arith) (on esRateBit f) e
 
-  trick-read : (f : Field) → atMost 255 f → bit c trickBit ≡ fieldFlag f → drop (trickAt c) c ≡ image 1 trickTable f ++ rest
+  trick-read : (f : Field) → atMost 255 f → bit c trickBit ≡ fieldFlag f → drop (trickAt c) c ≡ image trickBytes f ++ rest
       → readRawTrick c ≡ writtenField f
   unfolding image
   trick-read absent k f e = sym (field-off c trickBit _ h f)
   trick-read (holds v) k f e = trick-at-back c rest accepts v (omega arith) (on trickBit f) e
 
-  copy-read : (f : Field) → atMost 127 f → bit c copyInfoBit ≡ fieldFlag f → drop (copyInfoAt c) c ≡ image 1 copyTable f ++ rest
+  copy-read : (f : Field) → atMost 127 f → bit c copyInfoBit ≡ fieldFlag f → drop (copyInfoAt c) c ≡ image copyInfoBytes f ++ rest
       → readCopyInfo c ≡ writtenField f
   unfolding image
   copy-read absent k f e = sym (field-off c copyInfoBit _ h f)
   copy-read (holds v) k f e = copy-info-at-back c rest accepts v (omega arith) (on copyInfoBit f) e
 
-  crc-read : (f : Field) → atMost 65535 f → bit c crcBit ≡ fieldFlag f → drop (crcAt c) c ≡ image 2 crcTable f ++ rest
+  crc-read : (f : Field) → atMost 65535 f → bit c crcBit ≡ fieldFlag f → drop (crcAt c) c ≡ image crcBytes f ++ rest
       → readCrc c ≡ writtenField f
   unfolding image
   crc-read absent k f e = sym (field-off c crcBit _ h f)
@@ -250,16 +250,16 @@ module _ (u : Unit) (n : ℕ) (ok : UnitFits u n) (pay : List ℕ) where
 
   -- each field stands after those before it
   abbrev after-copy : List ℕ
-  after-copy = image 2 crcTable (crcField (u .crc)) ++ pay
+  after-copy = image crcBytes (crcField (u .crc)) ++ pay
 
   abbrev after-trick : List ℕ
-  after-trick = image 1 copyTable (byteField (u .copy)) ++ after-copy
+  after-trick = image copyInfoBytes (byteField (u .copy)) ++ after-copy
 
   abbrev after-rate : List ℕ
-  after-rate = image 1 trickTable (byteField (u .trick)) ++ after-trick
+  after-rate = image trickBytes (byteField (u .trick)) ++ after-trick
 
   abbrev after-escr : List ℕ
-  after-escr = image 3 rateTable (rateField (u .rate)) ++ after-rate
+  after-escr = image esRateBytes (rateField (u .rate)) ++ after-rate
 
   abbrev after-times : List ℕ
   after-times = escrImage (u .escr) ++ after-escr
@@ -284,25 +284,25 @@ module _ (u : Unit) (n : ℕ) (ok : UnitFits u n) (pay : List ℕ) where
   unfolding trickAt
   trick-at =
       let f = rateField (u .rate) in
-      skip (image 3 rateTable f) after-rate c (esRateAt c) (3 * bit c 11) rate-at (omega (arith, image-length 3 rateTable f, rate-flag))
+      skip (image esRateBytes f) after-rate c (esRateAt c) (3 * bit c 11) rate-at (omega (arith, rate-length f, rate-flag))
 
   copy-at : drop (copyInfoAt c) c ≡ after-trick
   unfolding copyInfoAt
   copy-at =
       let f = byteField (u .trick) in
-      skip (image 1 trickTable f) after-trick c (trickAt c) (bit c 12) trick-at (omega (arith, image-length 1 trickTable f, trick-flag))
+      skip (image trickBytes f) after-trick c (trickAt c) (bit c 12) trick-at (omega (arith, trick-length f, trick-flag))
 
   crc-at : drop (crcAt c) c ≡ after-copy
   unfolding crcAt
   crc-at =
       let f = byteField (u .copy) in
-      skip (image 1 copyTable f) after-copy c (copyInfoAt c) (bit c 13) copy-at (omega (arith, image-length 1 copyTable f, copy-flag))
+      skip (image copyInfoBytes f) after-copy c (copyInfoAt c) (bit c 13) copy-at (omega (arith, copy-length f, copy-flag))
 
   end-at : drop (fieldsEnd c) c ≡ pay
   unfolding fieldsEnd
   end-at =
       let f = crcField (u .crc) in
-      skip (image 2 crcTable f) pay c (crcAt c) (2 * bit c 14) crc-at (omega (arith, image-length 2 crcTable f, crc-flag))
+      skip (image crcBytes f) pay c (crcAt c) (2 * bit c 14) crc-at (omega (arith, crc-length f, crc-flag))
 
   end-is : fieldsEnd c ≡ 3 + dataOf u
   unfolding fieldsEnd crcAt copyInfoAt trickAt esRateAt escrAt dataOf

@@ -292,36 +292,36 @@ module _ (d : List ℕ) (p : ℕ) where
   escr-there f b x xs after e q w = placed-bytes d p 6 (escrImage f) xs after (rw (e, q))
       (rw q (length-bytesOf 6 (joined (escrTable b x)))) w
 
-  module _ (k : ℕ) (t : ℕ → List Part) where
-    field-none : (f : Field) → f ≡ absent → Placed d p (image k t f) k p d
+  module _ (k : ℕ) (t : ℕ → List ℕ) where
+    field-none : (f : Field) → f ≡ absent → Placed d p (image t f) k p d
     unfolding image
-    field-none f e = placed-nothing d p k (image k t f) (rw e)
+    field-none f e = placed-nothing d p k (image t f) (rw e)
 
-    field-there : (f : Field) (v : ℕ) (xs after : List ℕ) → f ≡ holds v → xs ≡ bytesOf k (joined (t v)) → after ≡ placedAt d p xs
-        → Placed d p (image k t f) k (p + k) after
+    field-there : (f : Field) (v : ℕ) (xs after : List ℕ) → f ≡ holds v → xs ≡ t v → length (t v) ≡ k → after ≡ placedAt d p xs
+        → Placed d p (image t f) k (p + k) after
     unfolding image
-    field-there f v xs after e q w = placed-bytes d p k (image k t f) xs after (rw (e, q)) (rw q (length-bytesOf k (joined (t v)))) w
+    field-there f v xs after e q l w = placed-bytes d p k (image t f) xs after (rw (e, q)) (rw q l) w
 
-    pub byte-none : (f : Byte) → f ≡ Byte.Absent → Placed d p (image k t (byteField f)) k p d
+    pub byte-none : (f : Byte) → f ≡ Byte.Absent → Placed d p (image t (byteField f)) k p d
     byte-none f e = field-none (byteField f) (rw e)
 
-    pub byte-there : (f : Byte) (v : ℕ) (xs after : List ℕ) → f ≡ Byte.Present v → xs ≡ bytesOf k (joined (t v)) → after ≡ placedAt d p xs
-        → Placed d p (image k t (byteField f)) k (p + k) after
+    pub byte-there : (f : Byte) (v : ℕ) (xs after : List ℕ) → f ≡ Byte.Present v → xs ≡ t v → length (t v) ≡ k → after ≡ placedAt d p xs
+        → Placed d p (image t (byteField f)) k (p + k) after
     byte-there f v xs after e = field-there (byteField f) v xs after (rw e)
 
-  pub rate-none : (f : Rate) → f ≡ Rate.Absent → Placed d p (image 3 rateTable (rateField f)) 3 p d
-  rate-none f e = field-none 3 rateTable (rateField f) (rw e)
+  pub rate-none : (f : Rate) → f ≡ Rate.Absent → Placed d p (image esRateBytes (rateField f)) 3 p d
+  rate-none f e = field-none 3 esRateBytes (rateField f) (rw e)
 
   pub rate-there : (f : Rate) (v : ℕ) (xs after : List ℕ) → f ≡ Rate.Present v → xs ≡ esRateBytes v → after ≡ placedAt d p xs
-      → Placed d p (image 3 rateTable (rateField f)) 3 (p + 3) after
-  rate-there f v xs after e = field-there 3 rateTable (rateField f) v xs after (rw e)
+      → Placed d p (image esRateBytes (rateField f)) 3 (p + 3) after
+  rate-there f v xs after e q = field-there 3 esRateBytes (rateField f) v xs after (rw e) q (length-bytesOf 3 (joined (rateTable v)))
 
-  pub crc-none : (f : Crc) → f ≡ Crc.Absent → Placed d p (image 2 crcTable (crcField f)) 2 p d
-  crc-none f e = field-none 2 crcTable (crcField f) (rw e)
+  pub crc-none : (f : Crc) → f ≡ Crc.Absent → Placed d p (image crcBytes (crcField f)) 2 p d
+  crc-none f e = field-none 2 crcBytes (crcField f) (rw e)
 
   pub crc-there : (f : Crc) (v : ℕ) (xs after : List ℕ) → f ≡ Crc.Present v → xs ≡ crcBytes v → after ≡ placedAt d p xs
-      → Placed d p (image 2 crcTable (crcField f)) 2 (p + 2) after
-  crc-there f v xs after e = field-there 2 crcTable (crcField f) v xs after (rw e)
+      → Placed d p (image crcBytes (crcField f)) 2 (p + 2) after
+  crc-there f v xs after e q = field-there 2 crcBytes (crcField f) v xs after (rw e) q (length-bytesOf 2 (joined (crcTable v)))
 
 -- one after another
 then : (a : List ℕ) (p : ℕ) (s : List ℕ) (m q : ℕ) (b t : List ℕ) (n r : ℕ) (c : List ℕ) → p + (m + n) ≤ length a
@@ -340,9 +340,9 @@ length-after {a} {p} {s} x = ap length (x .whole) ∙ length-placed a p s
 pub header-made : (u : Unit) (n : ℕ) (ff nine a₁ a₂ a₃ a₄ a₅ a₆ a₇ : List ℕ) (p₂ p₃ p₄ p₅ p₆ p₇ : ℕ)
     → length ff ≡ 32 → nine ≡ bytesOf 9 (joined (headTable u n)) → a₁ ≡ placedAt ff 0 nine
     → Placed a₁ 9 (timesImage (u .times)) 10 p₂ a₂ → Placed a₂ p₂ (escrImage (u .escr)) 6 p₃ a₃
-    → Placed a₃ p₃ (image 3 rateTable (rateField (u .rate))) 3 p₄ a₄
-    → Placed a₄ p₄ (image 1 trickTable (byteField (u .trick))) 1 p₅ a₅ → Placed a₅ p₅ (image 1 copyTable (byteField (u .copy))) 1 p₆ a₆
-    → Placed a₆ p₆ (image 2 crcTable (crcField (u .crc))) 2 p₇ a₇
+    → Placed a₃ p₃ (image esRateBytes (rateField (u .rate))) 3 p₄ a₄
+    → Placed a₄ p₄ (image trickBytes (byteField (u .trick))) 1 p₅ a₅ → Placed a₅ p₅ (image copyInfoBytes (byteField (u .copy))) 1 p₆ a₆
+    → Placed a₆ p₆ (image crcBytes (crcField (u .crc))) 2 p₇ a₇
     → a₇ ≡ placedAt ff 0 (headerImage u n)
 unfolding headerImage fieldsImage
 header-made u n ff nine a₁ a₂ a₃ a₄ a₅ a₆ a₇ p₂ p₃ p₄ p₅ p₆ p₇ l e w x₁ x₂ x₃ x₄ x₅ x₆ =
@@ -374,14 +374,26 @@ unfolding escrImage
 escr-length Escr.Absent = refl
 escr-length (Escr.Present b e) = length-bytesOf 6 (joined (escrTable b e))
 
-pub image-length : (k : ℕ) (t : ℕ → List Part) (f : Field) → length (image k t f) ≡ k * fieldFlag f
+image-length : (k : ℕ) (t : ℕ → List ℕ) → ((v : ℕ) → length (t v) ≡ k) → (f : Field) → length (image t f) ≡ k * fieldFlag f
 unfolding image
-image-length k t absent = omega arith
-image-length k t (holds v) = omega (arith, length-bytesOf k (joined (t v)))
+image-length k t l absent = omega arith
+image-length k t l (holds v) = omega (arith, l v)
+
+pub rate-length : (f : Field) → length (image esRateBytes f) ≡ 3 * fieldFlag f
+rate-length = image-length 3 esRateBytes (λ v. length-bytesOf 3 (joined (rateTable v)))
+
+pub trick-length : (f : Field) → length (image trickBytes f) ≡ 1 * fieldFlag f
+trick-length = image-length 1 trickBytes (λ v. length-bytesOf 1 (joined (trickTable v)))
+
+pub copy-length : (f : Field) → length (image copyInfoBytes f) ≡ 1 * fieldFlag f
+copy-length = image-length 1 copyInfoBytes (λ v. length-bytesOf 1 (joined (copyTable v)))
+
+pub crc-length : (f : Field) → length (image crcBytes f) ≡ 2 * fieldFlag f
+crc-length = image-length 2 crcBytes (λ v. length-bytesOf 2 (joined (crcTable v)))
 
 fields-length : (u : Unit) → length (fieldsImage u) ≡ dataOf u
 unfolding fieldsImage dataOf
-fields-length u = simp (length-append, times-length, escr-length, image-length) (omega arith)
+fields-length u = simp (length-append, times-length, escr-length, rate-length, trick-length, copy-length, crc-length) (omega arith)
 
 pub header-length : (u : Unit) (n : ℕ) → length (headerImage u n) ≡ 9 + dataOf u
 unfolding headerImage
@@ -734,7 +746,7 @@ pub ruleset unit-laws = (unit-id, unit-times, unit-escr, unit-rate, unit-copy, n
 
 pub ruleset size-laws = (length-bounded, length-unbounded, size-long, size-length, needs)
 
-pub ruleset field-laws = (times-none, times-alone, times-pair, escr-none, escr-there, rate-none, rate-there, byte-none, byte-there, trick-written, copy-written, crc-none, crc-there, crc-written, needs)
+pub ruleset field-laws = (times-none, times-alone, times-pair, escr-none, escr-there, rate-none, rate-there, byte-none, byte-there, trick-written, copy-written, crc-none, crc-there, crc-written, length-bytesOf, needs)
 
 pub ruleset header-laws = (head-written, header-made, needs)
 

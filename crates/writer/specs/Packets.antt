@@ -7,7 +7,7 @@ use lib.Dec.{ltb}
 use Rattle.bits.specs.Answer.{pick, truth, placedAt}
 use Rattle.bits.specs.Pack.{Part, part, joined, bytesOf}
 use Rattle.timestamp.specs.Stamp.{stampBytes}
-use Rattle.contents.specs.Layout.{escrBytes, rateTable, trickTable, copyTable, crcTable}
+use Rattle.contents.specs.Layout.{escrBytes, esRateBytes, trickBytes, copyInfoBytes, crcBytes}
 use Rattle.writer.specs.declared.Route.{Route}
 use Rattle.writer.specs.declared.Times.{Times}
 use Rattle.writer.specs.declared.Times.the-variants.{Untimed, Pts, Both}
@@ -40,15 +40,15 @@ unfoldable pub escrImage : Escr → List ℕ
 escrImage Escr.Absent = []
 escrImage (Escr.Present b e) = escrBytes b e
 
--- k bytes by a table, where the field is there
-unfoldable pub image : ℕ → (ℕ → List Part) → Field → List ℕ
-image k t absent = []
-image k t (holds v) = bytesOf k (joined (t v))
+-- its bytes, where a field of one number is there
+unfoldable pub image : (ℕ → List ℕ) → Field → List ℕ
+image bytes absent = []
+image bytes (holds v) = bytes v
 
 unfoldable pub fieldsImage : Unit → List ℕ
 fieldsImage u =
-    timesImage (u .times) ++ (escrImage (u .escr) ++ (image 3 rateTable (rateField (u .rate))
-    ++ (image 1 trickTable (byteField (u .trick)) ++ (image 1 copyTable (byteField (u .copy)) ++ image 2 crcTable (crcField (u .crc))))))
+    timesImage (u .times) ++ (escrImage (u .escr) ++ (image esRateBytes (rateField (u .rate))
+    ++ (image trickBytes (byteField (u .trick)) ++ (image copyInfoBytes (byteField (u .copy)) ++ image crcBytes (crcField (u .crc))))))
 
 unfoldable pub headerImage : Unit → ℕ → List ℕ
 headerImage u n = bytesOf 9 (joined (headTable u n)) ++ fieldsImage u

@@ -11,7 +11,7 @@ ghost use Rattle.timestamp.specs.Stamp.{stampBytes};
 ghost use Rattle.pes.specs.Stream.{parsedId};
 ghost use Rattle.writer.specs.Unit.{rateField, byteField, crcField, timesFlags, escrFlag, fieldFlag, timesBytes};
 ghost use Rattle.writer.specs.Unit.{dataOf, statedLength, countFor};
-ghost use Rattle.contents.specs.Layout.{escrBytes, esRateBytes, rateTable, trickTable, copyTable, crcTable};
+ghost use Rattle.contents.specs.Layout.{escrBytes, esRateBytes, trickBytes, copyInfoBytes, crcBytes};
 ghost use Rattle.writer.specs.Packets.{headTable, timesImage, escrImage, image, headerImage};
 ghost use Rattle.writer.specs.Packets.{packetTable, stuffing, carrier, carried, packetsOf, flat, Placed};
 ghost use Rattle.writer.specs.Writer.{allOf, within, timesFit, escrFits, fits, routeTests, unitTests, sizeTests};
@@ -466,7 +466,7 @@ fn put_escr(escr: Escr, head: &mut [u8], at: usize) -> usize
 
 fn put_rate(rate: Rate, head: &mut [u8], at: usize) -> usize
     requires { ⌜ at + 3 ≤ length (now head) ⌝ }
-    ensures { λ r. ⌜ Placed (now (head .entry)) at (image 3 rateTable (rateField rate)) 3 r (now (head .exit)) ⌝ }
+    ensures { λ r. ⌜ Placed (now (head .entry)) at (image esRateBytes (rateField rate)) 3 r (now (head .exit)) ⌝ }
 {
     match rate {
         Rate::Absent => at,
@@ -480,7 +480,7 @@ fn put_rate(rate: Rate, head: &mut [u8], at: usize) -> usize
 
 fn put_trick(trick: Byte, head: &mut [u8], at: usize) -> usize
     requires { ⌜ at + 1 ≤ length (now head) ⌝ }
-    ensures { λ r. ⌜ Placed (now (head .entry)) at (image 1 trickTable (byteField trick)) 1 r (now (head .exit)) ⌝ }
+    ensures { λ r. ⌜ Placed (now (head .entry)) at (image trickBytes (byteField trick)) 1 r (now (head .exit)) ⌝ }
 {
     match trick {
         Byte::Absent => at,
@@ -494,7 +494,7 @@ fn put_trick(trick: Byte, head: &mut [u8], at: usize) -> usize
 
 fn put_copy(copy: Byte, head: &mut [u8], at: usize) -> usize
     requires { ⌜ at + 1 ≤ length (now head) ⌝ }
-    ensures { λ r. ⌜ Placed (now (head .entry)) at (image 1 copyTable (byteField copy)) 1 r (now (head .exit)) ⌝ }
+    ensures { λ r. ⌜ Placed (now (head .entry)) at (image copyInfoBytes (byteField copy)) 1 r (now (head .exit)) ⌝ }
 {
     match copy {
         Byte::Absent => at,
@@ -508,7 +508,7 @@ fn put_copy(copy: Byte, head: &mut [u8], at: usize) -> usize
 
 fn put_crc(crc: Crc, head: &mut [u8], at: usize) -> usize
     requires { ⌜ at + 2 ≤ length (now head) ⌝ }
-    ensures { λ r. ⌜ Placed (now (head .entry)) at (image 2 crcTable (crcField crc)) 2 r (now (head .exit)) ⌝ }
+    ensures { λ r. ⌜ Placed (now (head .entry)) at (image crcBytes (crcField crc)) 2 r (now (head .exit)) ⌝ }
 {
     match crc {
         Crc::Absent => at,
