@@ -19,7 +19,7 @@ use Rattle.machine.specs.Row.{machineOf, rowOf, stepBy, rowStep, rowStepOf, run
 use Rattle.log.specs.declared.Event.{Event}
 use Rattle.host.specs.Reports.{Reports}
 use Rattle.host.proofs.Laws.{reports, reports-as, reports-of, host-laws}
-use Rattle.machine.proofs.Laws.{step-length, step-sync, step-state, run-length, run-state}
+use Rattle.machine.proofs.Laws.{run-length, run-state}
 use Rattle.writer.specs.declared.Route.{Route}
 use Rattle.writer.specs.declared.Unit.{Unit as WrittenUnit}
 use Rattle.writer.specs.declared.Written.{Written}
@@ -167,11 +167,9 @@ machine-fresh m xs e f = f ∙ ap rowOf e
 pub gather-fresh : (g : Gathering) (xs : List ℕ) → g ≡ gather.emptied → xs ≡ store.gatheringRow g → xs ≡ store.gatheringRow gather.emptied
 gather-fresh g xs e f = f ∙ ap store.gatheringRow e
 
--- ---- what `search` is given: for a number that chooses, for a row that stands for nothing, and for each entry
+-- ---- what `search` is given: for a number that chooses, and for each entry
 
 pub ruleset chosen-laws = (eq-eqb, ne-eqb, needs)
-
-pub ruleset stray-laws = (step-length, step-sync, step-state, needs)
 
 pub ruleset step-laws = (step-taken, step-refused, step-strayed, needs)
 

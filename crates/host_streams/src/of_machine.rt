@@ -2,34 +2,18 @@
 ghost use mathlib.Core.Path.{_≡_};
 ghost use mathlib.Core.List.{[], _∷_};
 ghost use Rattle.log.specs.Entry.{readEntry};
-ghost use Rattle.machine.specs.Step.{fresh, verdictNumber};
+ghost use Rattle.machine.specs.Step.{fresh};
 ghost use Rattle.host.specs.Reports.{Reports};
 ghost use Rattle.machine.specs.Row.{rowOf, rowStep, rowStepOf, rowRun, rowRunOf};
+use crate::step_number;
 use crate::strayed;
 use host::numbers::DONE;
-use host::numbers::INDEX_FULL;
-use host::numbers::LOG_FULL;
-use host::numbers::NO_SYNC;
 use host::numbers::OUT_OF_RANGE;
 use host::numbers::WRONG_LENGTH;
 use log::EntryRead;
 use machine::Machine;
-use machine::Verdict;
 use machine::row;
 use machine::row::RowRead;
-
-fn number_of(v: Verdict) -> u32
-    ensures { λ r. ⌜ r ≡ verdictNumber v ⌝ }
-{
-    match v {
-        Verdict::Done => DONE,
-        Verdict::WrongLength => WRONG_LENGTH,
-        Verdict::NoSync => NO_SYNC,
-        Verdict::OutOfRange => OUT_OF_RANGE,
-        Verdict::IndexFull => INDEX_FULL,
-        Verdict::LogFull => LOG_FULL,
-    }
-}
 
 // The row of a machine before its first packet, with an empty log (Machine::new): 0, 255, 0, 0
 #[no_mangle]
@@ -49,7 +33,7 @@ pub extern "C" fn cmv_machine_step(state: &mut [u64; 4], packet: &[u8], log: &mu
         RowRead::Is(m) => {
             let s = machine::step(m, packet, log);
             let v = s.verdict;
-            let number = number_of(v);
+            let number = step_number(v);
             if number == 0 {
                 let n = s.machine;
                 row::write(n, state);
@@ -76,13 +60,13 @@ pub extern "C" fn cmv_machine_run(
         RowRead::Is(m) => {
             let r = machine::run(m, bytes, log);
             let v = r.verdict;
-            let word = number_of(v);
+            let word = step_number(v);
             if word == 0 {
                 let n = r.machine;
                 let e = r.ended;
                 row::write(n, state);
                 *taken = r.packets as u64;
-                *ended = number_of(e) as u64;
+                *ended = step_number(e) as u64;
             }
             word
         }
