@@ -57,7 +57,7 @@ markerBitNotSet = 12
 abbrev pub incorrectPrefixBits : ℕ
 incorrectPrefixBits = 13
 
--- a number that the original asserts on; a state, event or log place not possible
+-- a number that the original asserts on; a state, an event, a log place or a unit's row that is not possible
 abbrev pub outOfRange : ℕ
 outOfRange = 14
 

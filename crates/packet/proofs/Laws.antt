@@ -14,10 +14,10 @@ use mathlib.Core.Logic.{_⊎_, ⊎-elim}
 use types.Run.{OneOf}
 use denote.Enum.Declared.{tagOf}
 use Rattle.bits.specs.Answer.{Answer, answer, pick, truth, Check, unless, firstOf, other, Within, partAt, partOf}
-use Rattle.bits.specs.Field.{bit, flag}
+use Rattle.bits.specs.Field.{bit}
 use Rattle.bits.proofs.Bools.{false-true, both}
 use Rattle.bits.proofs.Checks.{Off, none-holds, unless-within, firstOf-first, firstOf-past, ne-other, eq-other, other-false}
-use Rattle.bits.proofs.Fields.{flag-clear, flag-set, bitOf, in-byte, field-split, field-below, byte-field, Known, byte-wide}
+use Rattle.bits.proofs.Fields.{bitOf, in-byte, field-split, field-below, byte-field, Known, byte-wide}
 use Rattle.bits.proofs.Parts.{part-refused, part-done}
 use Rattle.control.specs.Control.{hasAdaptationField, hasPayload, counterOf, pidOf}
 use Rattle.packet.specs.declared.PartRead.{PartRead}
