@@ -124,16 +124,12 @@ prove() { # CRATE..
     wait $! || fail "'rt check $*' failed; $log has what it said"
 }
 
-# Has rt build archives, side by side: it checks the crate of each once more, on one core.
+# Has rt build archives, one after another, for two runs of rt in one folder disturb each other. It checks the crate of each once more.
 prove_archives() { # CRATE..
-    local part began=$SECONDS
-    local -A jobs=()
+    local part began log=$target/prove.log
     for part in "$@"; do
-        (cd "$top" && rt staticlib "$part") >"$target/prove.$part.log" 2>&1 &
-        jobs[$part]=$!
-    done
-    for part in "$@"; do
-        wait "${jobs[$part]}" || fail "'rt staticlib $part' failed; $target/prove.$part.log has what it said"
+        began=$SECONDS
+        (cd "$top" && rt staticlib "$part") >"$log" 2>&1 || fail "'rt staticlib $part' failed; $log has what it said"
         count_proof "lib$part.a" "$((SECONDS - began)) s"
     done
 }
