@@ -7,8 +7,8 @@ use crate::event::{self, Event, ENTRY};
 use crate::host::Reader;
 use crate::host_machine::{self, log_entry_at, State};
 use crate::host_writer::Unit;
-use crate::panics;
 use mpeg2ts_reader::packet::Packet;
+use std::panic::{self, AssertUnwindSafe};
 
 /// A function as rows name it, and the inputs that they have of it.
 pub struct Call {
@@ -106,7 +106,11 @@ const ASSERTS: &str = "asserts";
 
 /// What the oracle gives, or that it asserts or panics.
 fn caught(original: impl Fn() -> String) -> String {
-    panics::caught(original).unwrap_or_else(|payload| {
+    let hook = panic::take_hook();
+    panic::set_hook(Box::new(|_| ()));
+    let caught = panic::catch_unwind(AssertUnwindSafe(original));
+    panic::set_hook(hook);
+    caught.unwrap_or_else(|payload| {
         let fixed = payload.downcast_ref::<&str>().copied();
         let message = fixed.or_else(|| payload.downcast_ref::<String>().map(String::as_str)).unwrap_or_default();
         if message.starts_with("assertion") { ASSERTS } else { "panics" }.to_string()

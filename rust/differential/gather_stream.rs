@@ -40,7 +40,7 @@ pub fn compare_files(files: &[String]) -> bool {
     let Some(files) = Files::read(files) else { return false };
     let mut walk = Walk::new(files.most(), [&[]; 3]);
     files.each(|stream, rng| walk.stream(stream, rng));
-    report("gather", began.elapsed(), &walk.into_tallies())
+    report("gather", began, &walk.into_tallies())
 }
 
 /// A random stream, whose heads have contents.

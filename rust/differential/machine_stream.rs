@@ -45,7 +45,7 @@ pub fn compare_files(files: &[String]) -> bool {
     let Some(files) = Files::read(files) else { return false };
     let mut walk = Walk::new(files.most(), [&[]; 4]);
     files.each(|stream, rng| walk.stream(stream, State::FIRST, rng));
-    report("events", began.elapsed(), &walk.into_tallies())
+    report("events", began, &walk.into_tallies())
 }
 
 // ---- What the oracle tells of a stream.

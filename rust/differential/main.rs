@@ -1,6 +1,6 @@
 //! The library against the crate that it ports, the oracle, in one process.
 //!
-//!     differential [--count N | --times K] [--seed S] [--only MODULE]
+//!     differential [--count N | --times K] [--seed S] [--only MODULE | --half first | --half second]
 //!                                  compares; N random answers a module, or K times as many as each module has set
 //!     differential record DIR      writes a fixed sample of the oracle's answers to DIR/stdin and DIR/stdout
 //!     differential stream FILE..   compares on every packet of transport streams
@@ -54,7 +54,6 @@ mod reading;
 mod record;
 mod rng;
 mod rules;
-mod side_by_side;
 mod slice;
 mod stream;
 mod tally;
@@ -67,7 +66,7 @@ mod written;
 use module::{Module, Plan};
 use record::Sample;
 use std::path::Path;
-use std::time::{Duration, Instant};
+use std::time::Instant;
 use tally::{grouped, report, total, Tally};
 
 /// The modules, in the order of their codes.
@@ -83,8 +82,13 @@ const MODULES: [Module; 9] = [
     gather::MODULE,
 ];
 
+/// The modules that take about half of the time.
+const FIRST_HALF: [&str; 3] = ["contents", "machine", "gather"];
+
 const SEED: u64 = 1;
-const USAGE: &str = "usage: differential [--count N | --times K] [--seed S] [--only MODULE] | differential record DIR \
+const USAGE: &str =
+    "usage: differential [--count N | --times K] [--seed S] [--only MODULE | --half first | --half second] \
+    | differential record DIR \
     | differential stream FILE.. | differential events FILE.. | differential gather FILE.. | differential fields FILE \
     | differential differences [FILE]";
 
@@ -93,7 +97,7 @@ struct Options {
     count: Option<u64>,
     times: u64,
     seed: u64,
-    only: Option<&'static str>,
+    only: Vec<Module>,
 }
 
 #[no_mangle]
@@ -124,58 +128,44 @@ fn run(words: &[String]) -> Option<bool> {
 }
 
 fn options(words: &[String]) -> Option<Options> {
-    let mut options = Options { count: None, times: 1, seed: SEED, only: None };
+    let mut options = Options { count: None, times: 1, seed: SEED, only: MODULES.to_vec() };
     for pair in words.chunks(2) {
         let [option, value] = pair else { return None };
         match option.as_str() {
             "--count" => options.count = Some(value.parse().ok()?),
             "--times" => options.times = value.parse().ok()?,
             "--seed" => options.seed = value.parse().ok()?,
-            "--only" => options.only = Some(MODULES.iter().find(|module| module.name == value)?.name),
+            "--only" => options.only = chosen(|module| module.name == value)?,
+            "--half" if value == "first" => options.only = chosen(|module| FIRST_HALF.contains(&module.name))?,
+            "--half" if value == "second" => options.only = chosen(|module| !FIRST_HALF.contains(&module.name))?,
             _ => return None,
         }
     }
     Some(options)
 }
 
+/// The modules of which this holds, if there is one.
+fn chosen(holds: impl Fn(&Module) -> bool) -> Option<Vec<Module>> {
+    let modules: Vec<Module> = MODULES.iter().copied().filter(holds).collect();
+    (!modules.is_empty()).then_some(modules)
+}
+
 fn compare(options: &Options) -> bool {
     println!("differential: seed {}", options.seed);
     let began = Instant::now();
-    let chosen: Vec<&Module> =
-        MODULES.iter().filter(|module| options.only.map_or(true, |name| name == module.name)).collect();
-    let mut tallies: Vec<Vec<Tally>> = Vec::new();
-    side_by_side::each(
-        &chosen,
-        |module| compare_module(module, options),
-        |module, compared| {
-            compared.print(module);
-            tallies.push(compared.tallies);
-        },
-    );
-    total("differential", began.elapsed(), tallies.iter().flatten());
+    let tallies: Vec<Vec<Tally>> = options.only.iter().map(|module| compare_module(module, options)).collect();
+    total("differential", began, tallies.iter().flatten());
     tallies.iter().all(|module| !module.is_empty() && module.iter().all(Tally::passed))
 }
 
-/// What came of one module, and how long it took.
-struct Compared {
-    random: u64,
-    taken: Duration,
-    tallies: Vec<Tally>,
-}
-
-impl Compared {
-    /// A line for each function and one for all.
-    fn print(&self, module: &Module) {
-        println!("{}: {} random answers, beside what is always compared", module.name, grouped(self.random));
-        report(module.name, self.taken, &self.tallies);
-    }
-}
-
-fn compare_module(module: &Module, options: &Options) -> Compared {
+/// Compares one module, and prints a line for each function and one for all.
+fn compare_module(module: &Module, options: &Options) -> Vec<Tally> {
     let began = Instant::now();
     let plan = Plan { count: options.count.unwrap_or(module.count * options.times), seed: options.seed };
+    println!("{}: {} random answers, beside what is always compared", module.name, grouped(plan.count));
     let tallies = (module.compare)(&plan);
-    Compared { random: plan.count, taken: began.elapsed(), tallies }
+    report(module.name, began, &tallies);
+    tallies
 }
 
 /// Where something differs: it is printed, and the comparison goes on.

@@ -4,6 +4,7 @@ use crate::record::Sample;
 use crate::rng::Rng;
 use crate::tally::Tally;
 
+#[derive(Clone, Copy)]
 pub struct Module {
     pub name: &'static str,
     /// How many random answers it compares where nothing else is asked for.

@@ -16,7 +16,7 @@ pub fn compare(files: &[String]) -> bool {
     let began = Instant::now();
     let mut walk = Walk::new();
     let read = files.iter().all(|file| walk.file(file));
-    report("streams", began.elapsed(), &walk.into_tallies()) && read
+    report("streams", began, &walk.into_tallies()) && read
 }
 
 /// The bytes of a file, or nothing and a word about it.

@@ -4,7 +4,7 @@ use crate::answer::{Answer, MOST, NUMBERS};
 use crate::host::Reader;
 use crate::lent::Lent;
 use std::fmt;
-use std::time::Duration;
+use std::time::Instant;
 
 /// How many differences of a function are printed with their input.
 const SHOWN: u64 = 5;
@@ -216,16 +216,16 @@ impl fmt::Display for Tally {
 }
 
 /// Prints a line for each function and one for all, and says whether nothing differs.
-pub fn report(name: &str, taken: Duration, tallies: &[Tally]) -> bool {
+pub fn report(name: &str, began: Instant, tallies: &[Tally]) -> bool {
     tallies.iter().for_each(|tally| println!("{tally}"));
-    total(name, taken, tallies.iter());
+    total(name, began, tallies.iter());
     tallies.iter().all(|tally| tally.differ() == 0)
 }
 
 /// Prints what was compared in all, and how long it took.
-pub fn total<'a>(name: &str, taken: Duration, tallies: impl Iterator<Item = &'a Tally>) {
+pub fn total<'a>(name: &str, began: Instant, tallies: impl Iterator<Item = &'a Tally>) {
     let (compared, differ) = tallies.fold((0, 0), |(c, d), tally| (c + tally.compared(), d + tally.differ()));
-    let seconds = taken.as_secs_f64();
+    let seconds = began.elapsed().as_secs_f64();
     println!("{name}: {} answers compared, {} differ ({seconds:.1} s)", grouped(compared), grouped(differ));
 }
 
