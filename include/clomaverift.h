@@ -46,9 +46,9 @@ enum {
     CMV_DONE = 0, /* accepted */
     CMV_WRONG_LENGTH = 1, /* the length of a packet, a run, a timestamp or a clock reference is wrong, or an adaptation field is empty */
     CMV_NO_SYNC = 2, /* the first byte of a packet is not 47 hex */
-    CMV_SHORT_HEADER = 3, /* a PES packet under 6 bytes */
+    CMV_SHORT_HEADER = 3, /* a PES packet fewer than 6 bytes */
     CMV_BAD_START_CODE = 4, /* the first three bytes of a PES packet are not 00 00 01 */
-    CMV_SHORT_CONTENTS = 5, /* under 3 bytes after the head of a PES packet */
+    CMV_SHORT_CONTENTS = 5, /* fewer than 3 bytes after the head of a PES packet */
     CMV_BAD_CHECK_BITS = 6, /* the top two bits after the head are not 10 */
     CMV_HEADER_PAST_BUFFER = 7, /* the header data ends past the bytes */
     CMV_FIELDS_PAST_HEADER = 8, /* the fields whose flags are set end past the header data */
@@ -174,13 +174,14 @@ uint32_t cmv_adaptation_field_random_access_indicator(const uint8_t *buf, size_t
    Refused with 1. */
 uint32_t cmv_adaptation_field_elementary_stream_priority_indicator(const uint8_t *buf, size_t buf_len, uint64_t *value);
 
-/* base, extension: the PCR. base has 33 bits and counts 90 kHz, extension has 9 bits; cmv_clock_ref_into_u64 makes one number of them.
+/* base, extension: the PCR. base has 33 bits and counts ticks of 90 kHz, extension has 9 bits; cmv_clock_ref_into_u64 makes one number of
+   them.
    Refused with 1, 9, 11.
    9: PCR_flag is 0.
    11: buf ends before the PCR does. */
 uint32_t cmv_adaptation_field_pcr(const uint8_t *buf, size_t buf_len, uint64_t *base, uint64_t *extension);
 
-/* base, extension: the OPCR, as of a PCR.
+/* base, extension: the OPCR, in the form of a PCR.
    Refused with 1, 9, 11.
    9: OPCR_flag is 0.
    11: buf ends before the OPCR does. */
@@ -219,7 +220,7 @@ uint32_t cmv_adaptation_extension_ltw_offset(const uint8_t *buf, size_t buf_len,
    11: buf is empty, which is tested before 9, or ends before the three bytes do. */
 uint32_t cmv_adaptation_extension_piecewise_rate(const uint8_t *buf, size_t buf_len, uint64_t *value);
 
-/* splice: Splice_type, 4 bits. dts: DTS_next_AU, 33 bits, which counts 90 kHz.
+/* splice: Splice_type, 4 bits. dts: DTS_next_AU, 33 bits, which counts ticks of 90 kHz.
    Refused with 9, 11, 12.
    9: seamless_splice_flag is 0.
    11: buf is empty, which is tested before 9, or ends before the five bytes do.
@@ -230,7 +231,7 @@ uint32_t cmv_adaptation_extension_seamless_splice(const uint8_t *buf, size_t buf
    buf begins with the head of a PES packet, six bytes: so does, on a PID that carries PES packets, the payload of a packet whose
    payload_unit_start_indicator is 1. Every place is within buf.
    Refusals of the functions of this group:
-   3: buf is under 6 bytes.
+   3: buf is fewer than 6 bytes.
    4: its first three bytes are not 00 00 01. */
 
 /* Whether buf begins with a head.
@@ -273,7 +274,7 @@ enum {
    buf is what follows the head, the part that cmv_pes_header_contents reports with kind 1: two bytes of flags, the length of the header
    data, the header data and the payload. Every place is within buf.
    Refusals of the functions of this group:
-   5: buf is under 3 bytes.
+   5: buf is fewer than 3 bytes.
    6: the top two bits of its first byte are not 10.
    7: the header data, as long as the third byte says, ends past buf.
    8: the fields whose flags are set end past the header data. */
@@ -312,17 +313,17 @@ uint32_t cmv_pes_contents_copyright(const uint8_t *buf, size_t buf_len, uint64_t
    Refused with 5, 6, 7, 8. */
 uint32_t cmv_pes_contents_original_or_copy(const uint8_t *buf, size_t buf_len, uint64_t *value);
 
-/* kind 1: a PTS alone. kind 2: a PTS and a DTS. If ptsnumber is 0, pts is the PTS, 33 bits that count 90 kHz. If ptsnumber is 12, a marker
-   bit of it is 0 and pts is the number of that bit, 7, 23 or 39, where 0 is the top bit of its five bytes. So are dtsnumber and dts of the
-   DTS; with kind 1 both are 0. A marker bit that is 0 in one of the two does not refuse the other. The prefix bits of the two are not
-   looked at.
+/* kind 1: a PTS alone. kind 2: a PTS and a DTS. If ptsnumber is 0, pts is the PTS, 33 bits that count ticks of 90 kHz. If ptsnumber is 12,
+   a marker bit of it is 0 and pts is the number of that bit, 7, 23 or 39, where 0 is the top bit of its five bytes. So are dtsnumber and
+   dts of the DTS; with kind 1 both are 0. A marker bit that is 0 in one of the two does not refuse the other. The prefix bits of the two
+   are not looked at.
    Refused with 5, 6, 7, 8, 9, 10.
    9: PTS_DTS_flags are 00.
    10: they are 01. */
 uint32_t cmv_pes_contents_pts_dts(const uint8_t *buf, size_t buf_len, uint64_t *kind, uint64_t *ptsnumber, uint64_t *pts,
     uint64_t *dtsnumber, uint64_t *dts);
 
-/* base, extension: the ESCR, 33 and 9 bits, as of a PCR. Its marker bits are not looked at.
+/* base, extension: the ESCR, 33 and 9 bits, in the form of a PCR. Its marker bits are not looked at.
    Refused with 5, 6, 7, 8, 9.
    9: ESCR_flag is 0. */
 uint32_t cmv_pes_contents_escr(const uint8_t *buf, size_t buf_len, uint64_t *base, uint64_t *extension);
@@ -422,10 +423,10 @@ uint32_t cmv_es_rate_new(uint32_t rate, uint64_t *value);
 uint32_t cmv_es_rate_bytes_per_second(uint32_t rate, uint64_t *value);
 
 /* ---- Timestamps.
-   A timestamp is five bytes: 4 prefix bits, and 33 bits in three parts with a marker bit after each. value counts 90 kHz. buf begins with
-   one, and may be longer.
+   A timestamp is five bytes: 4 prefix bits, and 33 bits in three parts with a marker bit after each. value counts ticks of 90 kHz. buf
+   begins with one, and may be longer.
    Refusals of the functions of this group:
-   1: buf is under 5 bytes.
+   1: buf is fewer than 5 bytes.
    12: a marker bit is 0; first: 7, 23 or 39, where 0 is the top bit of the first byte. */
 
 /* value: the timestamp, if its prefix is 0010.
@@ -438,7 +439,7 @@ uint32_t cmv_timestamp_from_pts_bytes(const uint8_t *buf, size_t buf_len, uint64
    13: the prefix is another; first: 1, second: the prefix that is there. */
 uint32_t cmv_timestamp_from_dts_bytes(const uint8_t *buf, size_t buf_len, uint64_t *value);
 
-/* value: the timestamp, by any prefix.
+/* value: the timestamp, whatever its prefix is.
    Refused with 1, 12. */
 uint32_t cmv_timestamp_from_bytes(const uint8_t *buf, size_t buf_len, uint64_t *value);
 
@@ -457,11 +458,11 @@ uint32_t cmv_timestamp_likely_wrapped_since(uint64_t val, uint64_t since, uint64
 uint32_t cmv_timestamp_constants(uint64_t *max, uint64_t *timebase);
 
 /* ---- Clock references, counters, PIDs and the fourth byte of a packet.
-   A clock reference is a base of 33 bits, which counts 90 kHz, and an extension of 9 bits. byte is the fourth byte of a packet. */
+   A clock reference is a base of 33 bits, which counts ticks of 90 kHz, and an extension of 9 bits. byte is the fourth byte of a packet. */
 
 /* base, extension: the clock reference in the first six bytes of buf, which may be longer. Its reserved bits are not looked at.
    Refused with 1.
-   1: buf is under 6 bytes. */
+   1: buf is fewer than 6 bytes. */
 uint32_t cmv_clock_ref_from_slice(const uint8_t *buf, size_t buf_len, uint64_t *base, uint64_t *extension);
 
 /* base, extension: b and e, if they are a clock reference.
@@ -469,7 +470,7 @@ uint32_t cmv_clock_ref_from_slice(const uint8_t *buf, size_t buf_len, uint64_t *
    14: b is 2^33 or more, or e is 512 or more. */
 uint32_t cmv_clock_ref_from_parts(uint64_t b, uint16_t e, uint64_t *base, uint64_t *extension);
 
-/* number: base * 300 + extension, which counts 27 MHz.
+/* number: base * 300 + extension, which counts ticks of 27 MHz.
    Refused with 14.
    14: base is 2^33 or more, or extension is 512 or more. */
 uint32_t cmv_clock_ref_into_u64(uint64_t base, uint16_t extension, uint64_t *number);
@@ -563,8 +564,8 @@ uint32_t cmv_machine_run(uint64_t state[4], const uint8_t *bytes, size_t bytes_l
 /* kind, index, place, length: the event at byte at of the log. index is that of its packet: TAKEN when it was taken. place and length are
    the payload within that packet; they are 0 for the kinds that have none.
    Refused with 14.
-   14: at is no multiple of 8, or under 8 bytes of log follow it, or no event stands there: a kind outside 1 to 5, or low 12 bits that
-   are not 0. */
+   14: at is no multiple of 8, or fewer than 8 bytes of log follow it, or no event stands there: a kind outside 1 to 5, or low 12 bits
+   that are not 0. */
 uint32_t cmv_log_entry_at(const uint8_t *log, size_t log_len, size_t at, uint64_t *kind, uint64_t *index, uint64_t *place,
     uint64_t *length);
 
