@@ -4,12 +4,12 @@
    A function returns 0 on success, else a word: number + 256 * first + 65536 * second, that is the number of the refusal and up to two
    numbers that go with it, 0 where there are none. CMV_NUMBER, CMV_FIRST and CMV_SECOND take it apart. The comment of a function tells
    every number that it refuses with, in the order in which it tests for them, and when; if it does not say when, the head of the group
-   does. A function without a result refuses nothing.
+   does. The two functions that return nothing, cmv_machine_fresh and cmv_gather_fresh, refuse nothing.
 
    An out number, uint64_t *, is written on 0 and only then; one that the answer has no value for is written 0. So is a row of out numbers.
-   A row that is a state is written on 0 only, by cmv_gather on 20 too. Bytes that a function writes to, the log, the store and the output,
-   are as they were after every refusal. A truth value is 0 or 1. place and length are a part of a slice: it begins place bytes after the
-   first byte of the slice that the comment names, has length bytes, and lies within the slice.
+   A row that is a state is written on 0 only, by cmv_gather on 20 too. After a refusal the bytes that a function writes to, the log, the
+   store and the output, are as they were before the call. A truth value is 0 or 1. place and length are a part of a slice: it begins place
+   bytes after the first byte of the slice that the comment names, has length bytes, and lies within the slice.
 
    A slice is a pointer and a length in bytes, a row a pointer to the first of its numbers. No pointer may be null, also where the length
    is 0, and no two of the numbers and bytes lent in one call may share a byte where one of them is written. A function keeps no pointer,
