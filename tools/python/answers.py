@@ -44,6 +44,12 @@ def reached(start, file_of):
     return seen
 
 
+def source(here, folder, ending, comment):
+    """The text of a file by its crate and name, without comments; None if there is no such file."""
+    path = here and TOP / "crates" / here[0] / folder / f"{here[1]}.{ending}"
+    return re.sub(comment, "", path.read_text(), flags=re.M) if path and path.exists() else None
+
+
 # ---- definitions
 
 
@@ -59,10 +65,9 @@ def imported(text):
 @functools.cache
 def definitions(here):
     """A file of definitions by its crate and name. What is defined there stands in paragraphs."""
-    path = here and TOP / "crates" / here[0] / "specs" / f"{here[1]}.antt"
-    if not path or not path.exists():
+    text = source(here, "specs", "antt", r"^ *--.*$")
+    if text is None:
         return None
-    text = re.sub(r"^ *--.*$", "", path.read_text(), flags=re.M)
     paragraphs = [(DEFINED.search(one), one) for one in re.split(r"\n\s*\n", text)]
     return File({found[1]: one for found, one in paragraphs if found}, imported(text))
 
@@ -94,10 +99,9 @@ def functions(text):
 @functools.cache
 def code(here):
     """A file of code by its crate and module: functions by their bodies, and constants."""
-    path = here and TOP / "crates" / here[0] / "src" / f"{here[1]}.rt"
-    if not path or not path.exists():
+    text = source(here, "src", "rt", r"//.*$")
+    if text is None:
         return None
-    text = re.sub(r"//.*$", "", path.read_text(), flags=re.M)
     bodies = {name: found["body"] for name, found in functions(text).items()}
     used = USED.findall(text.replace("use crate::", f"use {here[0]}::"))
     taken = {name: (crate, module.removeprefix("::") or "lib") for crate, module, name in used}
