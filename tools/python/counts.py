@@ -2,12 +2,12 @@
 
 import re
 
+from edits import BY_THE_GATE, edit_files, read_edits
 from pages import Page, cells, grouped, quoted, row, unknown_names
-from sources import PRIVATE, TOP, below, called, code, crates, declared, definitions, edit_files, proofs, public_functions, specs
-from sources import wrong_answers
+from sources import PRIVATE, TOP, below, called, code, crates, declared, definitions, proofs, public_functions, specs, wrong_answers
 
 FILES = ["file", "lines", "what to believe"]
-CRATES = ["crate", "code", "definitions", "proofs", "ratio", "seconds", "wrong answers", "checks"]
+CRATES = ["crate", "code", "definitions", "proofs", "ratio", "seconds", "wrong answers", "by the gate", "checks"]
 TOTAL = re.compile(r"^(What has to be believed is in crates/NAME/specs, )[\d,]+ lines\b")
 
 
@@ -94,7 +94,9 @@ def crate_row(crate, seconds):
     in_specs = lines_of((TOP / "crates" / crate / "specs").glob("*.antt"), "--")
     ratio = f"{in_proofs / in_code:.1f}" if in_code else "-"
     lines = [grouped(in_code), grouped(in_specs), grouped(in_proofs)]
-    return row([crate, *lines, ratio, seconds, str(len(wrong_answers(crate))), str(len(edit_files([crate])))])
+    by_the_gate = [len(read_edits(path)) for _, path in edit_files([crate], [BY_THE_GATE])]
+    wrong = [len(wrong_answers(crate)), sum(by_the_gate), len(by_the_gate)]
+    return row([crate, *lines, ratio, seconds, *map(str, wrong)])
 
 
 def performance():

@@ -1,6 +1,7 @@
-"""The wrong answers of the repository, as text: those of crates/*/must-fail and those of tools/mutants.txt.
+"""The wrong answers of the repository, as text: those of crates/*/must-fail, which the gate tries, those of crates/*/must-fail-by-hand, which
+`tools/refused --edits` tries too, and those of tools/mutants.txt.
 
-A file of must-fail holds several, each with the lines
+A file of the two folders holds several, each with the lines
 
     wrong: its name, one of its kind in the crate
     dies:  the function whose proof has to fail, or a file under proofs/
@@ -21,6 +22,7 @@ from typing import NamedTuple
 TOP = Path(__file__).resolve().parents[2]
 MUTANTS = TOP / "tools" / "mutants.txt"
 BRACKET = re.compile("[{}]")
+BY_THE_GATE, BY_HAND = "must-fail", "must-fail-by-hand"  # folders of a crate
 
 
 class Change(NamedTuple):
@@ -61,7 +63,7 @@ class Wrong:
 
 
 def read_edits(path):
-    """The wrong answers of a file of must-fail."""
+    """The wrong answers of a file of edits."""
     crate, wrongs, file, old = path.parts[-3], [], None, None
     for number, line in enumerate(path.read_text().splitlines(), 1):
         word, _, rest = line.partition(":")
@@ -84,10 +86,10 @@ def read_edits(path):
     return wrongs
 
 
-def edit_files(names=()):
-    """The files of must-fail, with their crates: of all crates, or of those named."""
-    files = [(path.parts[-3], path) for path in sorted(TOP.glob("crates/*/must-fail/*.edit"))]
-    return [(crate, path) for crate, path in files if not names or crate in names]
+def edit_files(names=(), folders=(BY_THE_GATE, BY_HAND)):
+    """The files of edits, with their crates: of all crates, or of those named."""
+    paths = sorted(path for folder in folders for path in TOP.glob(f"crates/*/{folder}/*.edit"))
+    return [(path.parts[-3], path) for path in paths if not names or path.parts[-3] in names]
 
 
 def read_mutants():

@@ -3,7 +3,7 @@
     mutants.py SCRATCH [WORDS..]         those of all crates, or those that the words name
     mutants.py SCRATCH --list [WORDS..]  names them, and builds nothing
 
-A word is a crate, CRATE/NAME or NAME. Tried are the wrong answers of crates/*/must-fail and of tools/mutants.txt that change what is
+A word is a crate, CRATE/NAME or NAME. Tried are the edits of all crates and the wrong answers of tools/mutants.txt that change what is
 compiled into an archive: the crate is one that the archives are built from, the file is under src/, and more than promises is changed. Left
 out is also one whose library is byte for byte the unchanged one, as no comparison can tell the two apart: no entry calls its function, or
 none can see what it answers. A driver that fails or hangs has caught a wrong answer too.

@@ -2,10 +2,10 @@
 
     refused.py                      those of crates/*/must-fail, by the logs that the gate has left in target/must-fail
     refused.py --check              whether their files can be tried at all, with no prover
-    refused.py --edits [CRATE..]    the same as the first, of all crates or of those named, each put before the prover here
+    refused.py --edits [CRATE..]    these and those of crates/*/must-fail-by-hand, of all crates or of those named, put before the prover here
     refused.py --mutants [CRATE..]  those of tools/mutants.txt, put before the prover here
 
-edits.py says what a file of must-fail holds. rt asks only that something is refused. A function is proved by the promises of those that it
+edits.py says what a file of edits holds. rt asks only that something is refused. A function is proved by the promises of those that it
 calls, never by their code, so a right function stays proved whatever they answer, and a wrong one is refused for itself: that is looked
 for here. One file has no function twice. What only follows from another refusal is no refusal, nor is a proof that does not fit the code's
 shape; where a proof is one term and rests on a refused one nothing else is said of it, and the two wrong answers have to stand in two
@@ -20,7 +20,7 @@ import sys
 import tempfile
 from pathlib import Path
 
-from edits import TOP, changed_code, edit_files, function_of, read_edits, read_mutants
+from edits import BY_HAND, BY_THE_GATE, TOP, changed_code, edit_files, function_of, read_edits, read_mutants
 from sources import functions
 
 # What the prover says of a proof that rests on another which it has refused, and of one that was written for code of another shape: neither
@@ -70,7 +70,7 @@ def verdict(tried, refused):
 
 def check_gate():
     tried = refused = 0
-    for crate, path in edit_files():
+    for crate, path in edit_files(folders=[BY_THE_GATE]):
         wrongs = read_edits(path)
         log = TOP / "target" / "must-fail" / crate / path.stem / ".log"
         tried += max(1, len(wrongs))
@@ -99,7 +99,7 @@ def check_here(copies):
     tried = refused = 0
     with tempfile.TemporaryDirectory() as scratch:
         copy = Path(scratch) / "copy"
-        shutil.copytree(TOP, copy, ignore=shutil.ignore_patterns(".git", "must-fail", "rust"))
+        shutil.copytree(TOP, copy, ignore=shutil.ignore_patterns(".git", BY_THE_GATE, BY_HAND, "rust"))
         for crate, where, wrongs in copies:
             tried += len(wrongs)
             refused += judge(crate, where, wrongs, prove_with(crate, wrongs, copy), telling=True)
@@ -134,7 +134,7 @@ def mutant_copies(names):
 
 
 def faults_of(path):
-    """What is wrong with a file of must-fail, whatever the prover says."""
+    """What is wrong with a file of edits, whatever the prover says."""
     try:
         wrongs = read_edits(path)
     except ValueError as fault:
@@ -164,7 +164,7 @@ def lacks(wrong):
 
 
 def mutant_faults(edits):
-    """What is wrong with tools/mutants.txt beside these wrong answers of must-fail."""
+    """What is wrong with tools/mutants.txt beside these edits."""
     known = {str(changed_code(wrong)): wrong.label for wrong in edits}
     for wrong in read_mutants():
         try:
@@ -178,7 +178,7 @@ def mutant_faults(edits):
 
 def check_files():
     """Whether each change can be made, alone and after those before it in its file; whether each proof named is there, and once in a file;
-    whether tools/mutants.txt has only what must-fail lacks."""
+    whether tools/mutants.txt has only what the edits lack."""
     files = [path for _, path in edit_files()]
     said = [f"{path.relative_to(TOP)}: {fault}" for path in files for fault in faults_of(path)]
     if not said:

@@ -1,5 +1,5 @@
 """What the sources have, for the tools that hold docs/ to them: the crates, their functions, the names that their definitions and proofs
-declare, and the wrong answers of their must-fail/."""
+declare, and their wrong answers."""
 
 import functools
 import re
@@ -124,7 +124,7 @@ def imported(crate):
 
 @functools.cache
 def wrong_answers(crate):
-    """Each wrong answer of must-fail/ with the function, or the file under proofs/, in whose proof it is refused."""
+    """Each wrong answer with the function, or the file under proofs/, in whose proof it is refused."""
     wrongs = [wrong for _, path in edit_files([crate]) for wrong in read_edits(path)]
     names = [wrong.name for wrong in wrongs]
     for name in names:
