@@ -124,13 +124,26 @@ prove() { # CRATE..
     wait $! || fail "'rt check $*' failed; $log has what it said"
 }
 
-# Has rt build archives, one after another, for two runs of rt in one folder disturb each other. It checks the crate of each once more.
+# Has rt build archives, all at a time. Two runs of rt in one folder disturb each other's logs, so each has a folder of its own, with links to
+# the crates and to what is proved of them. It checks the crate of each archive once more.
 prove_archives() { # CRATE..
-    local part began log=$target/prove.log
+    local part room rooms=$target/archives
+    declare -A builds=()
+    rm -rf "$rooms"
+    mkdir -p "$target/staticlib"
     for part in "$@"; do
-        began=$SECONDS
-        (cd "$top" && rt staticlib "$part") >"$log" 2>&1 || fail "'rt staticlib $part' failed; $log has what it said"
-        count_proof "lib$part.a" "$((SECONDS - began)) s"
+        room=$rooms/$part
+        mkdir -p "$room/target"
+        ln -s "$top"/crates{,.txt} "$room"
+        ln -s "$target"/{rlib,stamp} "$room/target"
+        (SECONDS=0 && cd "$room" && rt staticlib "$part" >log 2>&1 && echo "$SECONDS s" >seconds) &
+        builds[$part]=$!
+    done
+    for part in "$@"; do
+        room=$rooms/$part
+        wait "${builds[$part]}" || fail "'rt staticlib $part' failed; $room/log has what it said"
+        mv "$room/target/staticlib/lib$part.a" "$target/staticlib/"
+        count_proof "lib$part.a" "$(cat "$room/seconds")"
     done
 }
 
