@@ -8,16 +8,14 @@ compiled into an archive: the crate is one that the archives are built from, the
 out is also one whose library is byte for byte the unchanged one, as no comparison can tell the two apart: no entry calls its function, or
 none can see what it answers. A driver that fails or hangs has caught a wrong answer too.
 
-The prover refuses such a library, so its crates are compiled with no proof, as 'rt try' does it: an archive's crate stands in a copy of the
-crates as a program with an empty main, and the toolchain's clang is one that keeps the module which it is handed. The exported functions
-around it, which only 'rt staticlib' makes, are made here. The unchanged crates, built in the same way, have to agree first. All of it
-stands in the folder SCRATCH; of target/ only the driver is read, and nothing is written there.
+The prover refuses such a library, so its crates are compiled with no proof (modules.py). The exported functions around a module, which only
+'rt staticlib' makes, are made here. The unchanged crates, built in the same way, have to agree first. All of it stands in the folder SCRATCH;
+of target/ only the driver is read, and nothing is written there.
 """
 
 import functools
 import os
 import re
-import shutil
 import signal
 import subprocess
 import sys
@@ -26,12 +24,12 @@ from pathlib import Path
 from edits import TOP, changed_code, edit_files, function_of, read_edits, read_mutants
 from header import CRATES as PARTS
 from header import ENTRY, Entry
+from modules import TRIPLE, Modules, must_run
 from sources import below, crates
 
 QUICK = ["--count", "100000"]  # random answers a module: most often enough, as the corners are always compared
 SHOWN = 160  # characters of a difference that are printed
 LONGEST = 1200  # seconds of the driver after which it counts as hung
-TRIPLE = "x86_64-unknown-linux-gnu"
 WORDS = {"u8": "i8", "u16": "i16", "u32": "i32", "u64": "i64", "usize": "i64"}
 
 # The module of the driver that most likely sees a wrong answer of a crate, or of its exported functions in of_CRATE.rt. It looks first.
@@ -72,58 +70,14 @@ def show(wrongs):
 # ---- a library with no proof
 
 
-class Bench:
-    """Where libraries are built: a copy of the crates for each archive, in which the archive's crate is a program."""
+class Bench(Modules):
+    """Where libraries are built: an object for each archive."""
 
     def __init__(self, scratch):
-        self.scratch = scratch
-        self.home = Path(must_run(["rt", "doc"]).strip()).parents[1]
-        self.tools = self.home / "on" / os.uname().machine / "toolchain"
-        self.kit = scratch / "kit"
-        self.make_kit()
-        for part in PARTS:
-            self.copy_crates(part)
+        super().__init__(scratch, PARTS)
         self.unchanged = {part: self.object_of(part, "unchanged") for part in PARTS}
         if None in self.unchanged.values():
             sys.exit("mutants: the unchanged crates do not compile")
-
-    def make_kit(self):
-        """The toolchain by links, but for a clang that keeps the first module which it is handed, and ends there."""
-        own = Path("on") / os.uname().machine
-        link_all_but(self.home, "on", self.kit)
-        link_all_but(self.home / own, "toolchain", self.kit / own)
-        link_all_but(self.tools, "bin", self.kit / own / "toolchain")
-        link_all_but(self.tools / "bin", "clang", self.kit / own / "toolchain" / "bin")
-        clang = self.kit / own / "toolchain" / "bin" / "clang"
-        clang.write_text(f"#!/bin/sh\ncp module.bc '{self.scratch}/module.bc'\nexit 1\n")
-        clang.chmod(0o755)
-
-    def copy_crates(self, part):
-        copy = self.scratch / part
-        copy.mkdir()
-        shutil.copy(TOP / "crates.txt", copy)
-        for crate in below(part):
-            shutil.copytree(TOP / "crates" / crate / "src", copy / "crates" / crate / "src")
-        self.write(part, f"crates/{part}/src/lib.rt", (TOP / "crates" / part / "src" / "lib.rt").read_text())
-
-    def write(self, part, file, text):
-        """A source file of an archive's copy. The root of its program is one that has a main."""
-        path = self.scratch / part / file
-        if file == f"crates/{part}/src/lib.rt":
-            path.unlink(missing_ok=True)
-            path, text = path.with_name("main.rt"), text + "\nfn main() {}\n"
-        path.write_text(text)
-
-    def module_of(self, part):
-        """The module that the toolchain makes of an archive's crate, as text; none where it does not compile."""
-        module = self.scratch / "module.bc"
-        module.unlink(missing_ok=True)
-        said = run(["rt", "try", part], cwd=self.scratch / part, env={**os.environ, "RATTLE_HOME": self.kit})
-        if not module.exists():
-            print(said.stdout + said.stderr, file=sys.stderr)
-            return None
-        clang = [self.tools / "bin" / "clang", f"--target={TRIPLE}", "-x", "ir", module]
-        return must_run([*clang, "-S", "-emit-llvm", "-Xclang", "-disable-llvm-passes", "-O0", "-o", "-"])
 
     def object_of(self, part, name):
         """An archive's crate and the exported functions around it, as an object."""
@@ -133,7 +87,7 @@ class Bench:
         text, made = self.scratch / "library.ll", self.scratch / f"{name}.{part}.o"
         module = module.replace("define i32 @main()", "define internal i32 @unused_main()")
         text.write_text("\n".join([module, *(exported(part, module, file) for file in sources_of(part))]))
-        clang = [self.tools / "bin" / "clang", f"--target={TRIPLE}", "-fPIC", "-O3", "-c", "-x", "ir", text]
+        clang = [self.clang, f"--target={TRIPLE}", "-fPIC", "-O3", "-c", "-x", "ir", text]
         must_run([*clang, "-o", made])
         return made
 
@@ -159,26 +113,6 @@ class Bench:
 
 LINK = '. tools/common.sh && link_rust differential "$@"'
 RUN = '. tools/common.sh && run_x86 "$@"'
-
-
-def run(words, **options):
-    return subprocess.run([str(word) for word in words], capture_output=True, text=True, **options)
-
-
-def must_run(words, **options):
-    """What a command writes, which must not fail."""
-    done = run(words, **options)
-    if done.returncode:
-        sys.exit(f"mutants: {' '.join(map(str, words))}: {done.stderr}")
-    return done.stdout
-
-
-def link_all_but(folder, entry, new):
-    """Links to all that is in a folder but one entry."""
-    new.mkdir(parents=True)
-    for one in folder.iterdir():
-        if one.name != entry:
-            (new / one.name).symlink_to(one)
 
 
 @functools.cache
