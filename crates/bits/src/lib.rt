@@ -11,6 +11,13 @@ pub fn wide(b: u8) -> u64
     b as u64
 }
 
+// A byte as a 32-bit number, with its bound.
+pub fn wide_u32(b: u8) -> u32
+    ensures { λ r. ⌜ (r ≡ b) × (r < 256) ⌝ }
+{
+    b as u32
+}
+
 // The bytes of a slice from a place on, as many as said; none where they would leave the slice.
 pub fn part(buf: &[u8], place: usize, length: usize) -> &[u8]
     ensures { λ r. ⌜ now r ≡ partAt place length (now (buf .entry)) ⌝ }

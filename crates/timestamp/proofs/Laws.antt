@@ -37,33 +37,39 @@ value-of xs =
       in-byte xs 4 0 7 1 refl,
     )
 
--- reading with no look at the prefix, by the five bytes as `wide` gives them
+-- the top three bits of the value: one in the upper half, two in the lower
+top-three : (a : ℕ) → a / 2 % 8 ≡ a / 8 % 2 * 4 + a / 2 % 4
+top-three a = omega arith
+
+-- reading with no look at the prefix; the value by its two halves, the lower of 32 bits, whose parts come as `wide_u32` gives them
 module _ (xs : List ℕ) where
   pub stamp-short : length xs < 5 → answer 1 [] ≡ readStamp xs
   unfolding readStamp
   stamp-short h = simp (lt-ltb (length xs) 5 h)
 
-  module _ (a : ℕ) (h : 5 ≤ length xs) (i : a ≡ getD xs 0 0) where
-    pub stamp-marker-7 : a % 2 ≡ 0 → answer 12 (7 ∷ []) ≡ readStamp xs
+  module _ (h : 5 ≤ length xs) where
+    pub stamp-marker-7 : getD xs 0 0 % 2 ≡ 0 → answer 12 (7 ∷ []) ≡ readStamp xs
     unfolding readStamp bit
     stamp-marker-7 z = simp (le-ltb (length xs) 5 h, eq-eqb (bit xs 7) 0 (omega arith))
 
-    module _ (p : a % 2 ≡ 0 → ⊥) (c : ℕ) (k : c ≡ getD xs 2 0) where
-      pub stamp-marker-23 : c % 2 ≡ 0 → answer 12 (23 ∷ []) ≡ readStamp xs
+    module _ (p : getD xs 0 0 % 2 ≡ 0 → ⊥) where
+      pub stamp-marker-23 : getD xs 2 0 % 2 ≡ 0 → answer 12 (23 ∷ []) ≡ readStamp xs
       unfolding readStamp bit
       stamp-marker-23 z = simp (le-ltb (length xs) 5 h, ne-eqb (bit xs 7) 0 (omega arith), eq-eqb (bit xs 23) 0 (omega arith))
 
-      module _ (q : c % 2 ≡ 0 → ⊥) (e : ℕ) (m : e ≡ getD xs 4 0) where
-        pub stamp-marker-39 : e % 2 ≡ 0 → answer 12 (39 ∷ []) ≡ readStamp xs
+      module _ (q : getD xs 2 0 % 2 ≡ 0 → ⊥) where
+        pub stamp-marker-39 : getD xs 4 0 % 2 ≡ 0 → answer 12 (39 ∷ []) ≡ readStamp xs
         unfolding readStamp bit
         stamp-marker-39 z =
             simp (le-ltb (length xs) 5 h, ne-eqb (bit xs 7) 0 (omega arith), ne-eqb (bit xs 23) 0 (omega arith), eq-eqb (bit xs 39) 0 (omega arith))
 
-        pub stamp-done : (b d : ℕ) → (e % 2 ≡ 0 → ⊥) → (b ≡ getD xs 1 0) × (b < 256) → c < 256 → (d ≡ getD xs 3 0) × (d < 256) → e < 256
-            → answer 0 ((a / 2 % 8 * 2 ^ 30 + b * 2 ^ 22 + c / 2 * 2 ^ 15 + d * 128 + e / 2) ∷ []) ≡ readStamp xs
+        pub stamp-done : (getD xs 4 0 % 2 ≡ 0 → ⊥) → (u t b c d e : ℕ) → (u ≡ getD xs 0 0 / 8 % 2) × (u < 256) → (t ≡ getD xs 0 0 / 2 % 4) × (t < 256)
+            → (b ≡ getD xs 1 0) × (b < 256) → (c ≡ getD xs 2 0) × (c < 256) → (d ≡ getD xs 3 0) × (d < 256) → (e ≡ getD xs 4 0) × (e < 256)
+            → answer 0 ((u * 2 ^ 32 + (e / 2 + d * 128 + c / 2 * 2 ^ 15 + b * 2 ^ 22 + t * 2 ^ 30)) ∷ []) ≡ readStamp xs
         unfolding readStamp bit
-        stamp-done b d r j k′ l m′ =
-            let v : a / 2 % 8 * 2 ^ 30 + b * 2 ^ 22 + c / 2 * 2 ^ 15 + d * 128 + e / 2 ≡ stampValue xs = sym (value-of xs ∙ omega arith) in
+        stamp-done r u t b c d e hu ht hb hc hd he =
+            let v : u * 2 ^ 32 + (e / 2 + d * 128 + c / 2 * 2 ^ 15 + b * 2 ^ 22 + t * 2 ^ 30) ≡ stampValue xs
+            = sym (value-of xs ∙ omega (arith, top-three (getD xs 0 0))) in
             simp (le-ltb (length xs) 5 h, ne-eqb (bit xs 7) 0 (omega arith), ne-eqb (bit xs 23) 0 (omega arith), ne-eqb (bit xs 39) 0 (omega arith), v)
 
 -- the same under a prefix. Each entry is a byte, as the borrow checker says it

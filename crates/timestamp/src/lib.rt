@@ -1,13 +1,15 @@
 // The 33-bit timestamps of the standard, PTS and DTS (`Timestamp` of the original's pes.rs).
 ghost use mathlib.Core.Path.{_≡_};
 ghost use Rattle.timestamp.specs.Stamp.{given, givenMade, makeStamp, readStamp, readPrefixed, ptsPrefix, dtsPrefix, likelyWrapped};
-use bits::wide;
+use bits::wide_u32;
 
-const BIT_15: u64 = 1 << 15;
+const BIT_15: u32 = 1 << 15;
 
-const BIT_22: u64 = 1 << 22;
+const BIT_22: u32 = 1 << 22;
 
-const BIT_30: u64 = 1 << 30;
+const BIT_30: u32 = 1 << 30;
+
+const BIT_32: u64 = 1 << 32;
 
 pub struct Timestamp {
     val: u64,
@@ -70,11 +72,11 @@ impl Timestamp {
         if buf.len() < 5 {
             return TimestampRead::WrongLength;
         }
-        let b0 = wide(buf[0]);
-        let b1 = wide(buf[1]);
-        let b2 = wide(buf[2]);
-        let b3 = wide(buf[3]);
-        let b4 = wide(buf[4]);
+        let b0 = buf[0];
+        let b1 = buf[1];
+        let b2 = buf[2];
+        let b3 = buf[3];
+        let b4 = buf[4];
         if b0 % 2 == 0 {
             return TimestampRead::MarkerBitNotSet { bit_number: 7 };
         }
@@ -84,8 +86,16 @@ impl Timestamp {
         if b4 % 2 == 0 {
             return TimestampRead::MarkerBitNotSet { bit_number: 39 };
         }
+        // Two halves, the lower of 32 bits: on a 32-bit processor their join is a move between registers, and no 64-bit shift is needed. The bits
+        // of b0 are cut out before they are widened: of that a compiler for a 64-bit processor makes one shift for both halves.
+        let low = wide_u32(b4) / 2
+            + wide_u32(b3) * 128
+            + wide_u32(b2) / 2 * BIT_15
+            + wide_u32(b1) * BIT_22
+            + wide_u32(b0 / 2 % 4) * BIT_30;
+        let high = wide_u32(b0 / 8 % 2);
         TimestampRead::Done(Timestamp {
-            val: b0 / 2 % 8 * BIT_30 + b1 * BIT_22 + b2 / 2 * BIT_15 + b3 * 128 + b4 / 2,
+            val: high as u64 * BIT_32 + low as u64,
         })
     }
 

@@ -17,7 +17,7 @@ use Rattle.bits.specs.Answer.{Answer, answer, pick, truth, placedAt, Check}
 use Rattle.bits.specs.Pack.{Part, joined, bytesOf, number}
 use Rattle.bits.proofs.Bools.{both}
 use Rattle.bits.proofs.Checks.{Off, none-holds, first-holds, accepted-by}
-use Rattle.bits.proofs.Packs.{written, length-bytesOf}
+use Rattle.bits.proofs.Packs.{bytesOf-more, written, length-bytesOf}
 use Rattle.bits.proofs.Parts.{part-rest, placed-none, placed-at, length-placed, placed-append}
 use Rattle.bits.proofs.Tests.{taken, not-taken}
 use Rattle.pes.specs.declared.StreamId.{StreamId}
@@ -206,15 +206,36 @@ module _ (n : ℕ) where
   unfolding bytesOf
   rate-written v e = rw (← e, div-one)
 
-  pub stamp-written : (p v : ℕ) → n ≡ joined (stampTable p v)
-      → (n / 4294967296 % 256) ∷ (n / 16777216 % 256) ∷ (n / 65536 % 256) ∷ (n / 256 % 256) ∷ (n % 256) ∷ [] ≡ stampBytes p v
-  unfolding bytesOf stampBytes
-  stamp-written p v e = rw (← e, div-one)
-
   pub escr-written : (b x : ℕ) → n ≡ joined (escrTable b x)
       → (n / 1099511627776 % 256) ∷ (n / 4294967296 % 256) ∷ (n / 16777216 % 256) ∷ (n / 65536 % 256) ∷ (n / 256 % 256) ∷ (n % 256) ∷ [] ≡ escrBytes b x
   unfolding bytesOf
   escr-written b x e = rw (← e, div-one)
+
+-- a time in five bytes, out of its halves: its three parts, and the first byte before the number of the other four
+
+module _ (v : ℕ) where
+  top-bits : v / 2 ^ 30 % 2 ^ 3 ≡ v / 2 ^ 32 % 2 * 4 + v % 2 ^ 32 / 2 ^ 30
+  top-bits = omega arith
+
+  middle-bits : v / 2 ^ 15 % 2 ^ 15 ≡ v % 2 ^ 32 / 2 ^ 15 % 2 ^ 15
+  middle-bits = omega arith
+
+  last-bits : v % 2 ^ 15 ≡ v % 2 ^ 32 % 2 ^ 15
+  last-bits = omega arith
+
+stamp-sum : (q h x m l : ℕ) → (q * 16 + (h * 8 + 1) + x * 2) * 2 ^ 32 + (m * 2 ^ 17 + 2 ^ 16 + l * 2 + 1)
+    ≡ q * 2 ^ 36 + ((h * 4 + x) * 2 ^ 33 + (1 * 2 ^ 32 + (m * 2 ^ 17 + (1 * 2 ^ 16 + (l * 2 ^ 1 + (1 * 2 ^ 0 + 0))))))
+stamp-sum q h x m l = omega arith
+
+pub stamp-written : (p v q t a b : ℕ) → a ≡ q * 16 + t + v % 2 ^ 32 / 2 ^ 30 * 2
+    → b ≡ v % 2 ^ 32 / 2 ^ 15 % 2 ^ 15 * 2 ^ 17 + 2 ^ 16 + v % 2 ^ 32 % 2 ^ 15 * 2 + 1
+    → (q ≡ p % 16) × (q < 256) → t ≡ v / 2 ^ 32 % 2 * 8 + 1
+    → a ∷ (b / 2 ^ 24 % 256) ∷ (b / 2 ^ 16 % 256) ∷ (b / 256 % 256) ∷ (b % 256) ∷ [] ≡ stampBytes p v
+unfolding bytesOf stampBytes
+stamp-written p v q t a b i j f e =
+    let n : joined (stampTable p v) ≡ a * 2 ^ 32 + b
+    = rw (i, j, f .0, e, top-bits v, middle-bits v, last-bits v) (sym (stamp-sum (p % 16) (v / 2 ^ 32 % 2) _ _ _)) in
+    (rw div-one at (bytesOf-more 4 a b (omega arith) (omega arith))) ∙ ap (bytesOf 5) (sym n)
 
 -- the nine bytes that every header has: their number first, over variables
 

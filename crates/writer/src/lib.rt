@@ -2,7 +2,7 @@
 ghost use mathlib.Core.Path.{_≡_};
 ghost use mathlib.Core.List.{_∷_, [], _++_};
 ghost use mathlib.Core.Bool.{true};
-ghost use Prim.Native.Nat.{_+_, _-_, _*_, _^_, _≤_, _<_, min};
+ghost use Prim.Native.Nat.{_+_, _-_, _*_, _/_, _%_, _^_, _≤_, _<_, min};
 ghost use lib.Dec.{leb, ltb};
 ghost use lib.ListN.{length, drop, replicate};
 ghost use Rattle.bits.specs.Answer.{pick, truth, placedAt};
@@ -17,7 +17,7 @@ ghost use Rattle.writer.specs.Packets.{packetTable, stuffing, carrier, c
 ghost use Rattle.writer.specs.Writer.{allOf, within, timesFit, escrFits, fits, routeTests, unitTests, sizeTests};
 ghost use Rattle.writer.specs.Writer.{givenWritten, writeOf, outputOf};
 use bits::copy_at;
-use bits::wide;
+use bits::wide_u32;
 use pes::StreamId;
 
 pub mod row;
@@ -310,8 +310,6 @@ const BIT_15: u64 = 1 << 15;
 
 const BIT_16: u64 = 1 << 16;
 
-const BIT_17: u64 = 1 << 17;
-
 const BIT_22: u32 = 1 << 22;
 
 const BIT_23: u32 = 1 << 23;
@@ -326,10 +324,6 @@ const BIT_30: u64 = 1 << 30;
 
 const BIT_32: u64 = 1 << 32;
 
-const BIT_33: u64 = 1 << 33;
-
-const BIT_36: u64 = 1 << 36;
-
 const BIT_40: u64 = 1 << 40;
 
 const BIT_42: u64 = 1 << 42;
@@ -338,23 +332,41 @@ const BIT_43: u64 = 1 << 43;
 
 const TOP_2_OF_48: u64 = 3 << 46;
 
-// A time in five bytes, after a prefix of 4 bits.
+// Powers of two in the lower half of a time, which has 32 bits.
+
+const LOW_15: u32 = 1 << 15;
+
+const LOW_16: u32 = 1 << 16;
+
+const LOW_17: u32 = 1 << 17;
+
+const LOW_24: u32 = 1 << 24;
+
+const LOW_30: u32 = 1 << 30;
+
+// The top bit of a time and the marker bit, at their places in the first byte. It is a choice, because the compiler makes a 64-bit shift of a product.
+fn top_and_marker(time: u64) -> u32
+    ensures { λ r. ⌜ r ≡ time / 2 ^ 32 % 2 * 8 + 1 ⌝ }
+{
+    if time / BIT_32 % 2 == 0 {
+        return 1;
+    }
+    9
+}
+
+// A time in five bytes, after a prefix of 4 bits. They come from two halves of the time, so that a 32-bit processor needs no 64-bit shift.
 fn stamp(prefix: u8, time: u64) -> [u8; 5]
     ensures { λ r. ⌜ r ≡ stampBytes prefix time ⌝ }
 {
-    let n = wide(prefix % 16) * BIT_36
-        + time / BIT_30 % 8 * BIT_33
-        + BIT_32
-        + time / BIT_15 % BIT_15 * BIT_17
-        + BIT_16
-        + time % BIT_15 * 2
-        + 1;
+    let low = (time % BIT_32) as u32;
+    let first = wide_u32(prefix % 16) * 16 + top_and_marker(time) + low / LOW_30 * 2;
+    let rest = low / LOW_15 % LOW_15 * LOW_17 + LOW_16 + low % LOW_15 * 2 + 1;
     [
-        (n / BIT_32 % 256) as u8,
-        (n / BIT_24 % 256) as u8,
-        (n / BIT_16 % 256) as u8,
-        (n / 256 % 256) as u8,
-        (n % 256) as u8,
+        first as u8,
+        (rest / LOW_24 % 256) as u8,
+        (rest / LOW_16 % 256) as u8,
+        (rest / 256 % 256) as u8,
+        (rest % 256) as u8,
     ]
 }
 
