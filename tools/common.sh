@@ -145,6 +145,7 @@ prove_archives() { # CRATE..
         mv "$room/target/staticlib/lib$part.a" "$target/staticlib/"
         count_proof "lib$part.a" "$(cat "$room/seconds")"
     done
+    rm -rf "$rooms"
 }
 
 # ---- Rust over the library.
