@@ -44,7 +44,7 @@ def look_at(modules, crate, functions):
     for target in TARGETS:
         shifts = SHIFT.findall(compiled(modules, text, target, "-emit-llvm"))
         helpers = HELPER.findall(compiled(modules, text, target))
-        print(f"{crate} for {target}: {number} functions, {len(shifts)} 64-bit shifts, {len(helpers)} calls of helpers")
+        print(f"{crate} for {target}: {number} of its functions, {len(shifts)} 64-bit shifts, {len(helpers)} calls of helpers")
         needed += shifts + helpers
     for found in needed:
         print(f"  {found}")
