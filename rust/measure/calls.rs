@@ -15,15 +15,32 @@ pub struct Function {
     /// How many inputs there are, and the length of each.
     pub count: usize,
     pub size: usize,
-    /// Makes an input of random bytes: one that is accepted, or any. None is such that the Rust panics.
-    pub make: fn(&mut [u8], &mut Rng, accepted: bool),
+    /// Makes an input of random bytes. None is such that the Rust panics.
+    pub make: fn(&mut [u8], &mut Rng, Kind),
+    /// The inputs of each row.
+    pub rows: &'static [Inputs],
 }
 
+#[derive(Clone, Copy, PartialEq)]
+pub enum Kind {
+    Accepted,
+    /// Refused ones too.
+    Any,
+    /// What broadcasts have, and little else.
+    Usual,
+}
+
+/// The inputs of a row: their name, and the kinds that they are of, in turns.
+pub type Inputs = (&'static str, [Kind; 2]);
+
+pub const ACCEPTED: Inputs = ("accepted", [Kind::Accepted; 2]);
+pub const MIXED: Inputs = ("mixed", [Kind::Accepted, Kind::Any]);
+pub const USUAL: Inputs = ("usual", [Kind::Usual; 2]);
+
 impl Function {
-    /// A row of accepted inputs, and one with any among them.
-    pub fn rows(self) -> [Row; 2] {
-        [("accepted", false), ("mixed", true)].map(|(kind, mixed)| {
-            Row::new(self.name, format!("{} {kind}", self.count), move || Some(Calls::new(self, mixed)))
+    pub fn rows(self) -> impl Iterator<Item = Row> {
+        self.rows.iter().map(move |&(name, kinds)| {
+            Row::new(self.name, format!("{} {name}", self.count), move || Some(Calls::new(self, kinds)))
         })
     }
 }
@@ -35,13 +52,12 @@ struct Calls {
 }
 
 impl Calls {
-    /// With inputs that are all accepted, or of which every second one is of any kind.
-    fn new(function: Function, mixed: bool) -> Calls {
+    fn new(function: Function, kinds: [Kind; 2]) -> Calls {
         let mut rng = Rng::new(1);
         let mut bytes = vec![0; function.count * function.size];
         for (nth, input) in bytes.chunks_mut(function.size).enumerate() {
             rng.fill(input);
-            (function.make)(input, &mut rng, !mixed || nth % 2 == 0);
+            (function.make)(input, &mut rng, kinds[nth % 2]);
         }
         Calls { function, bytes, sum: 0 }
     }

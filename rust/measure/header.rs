@@ -1,6 +1,6 @@
 //! PES headers: every field of the head and of the contents, read once.
 
-use crate::calls::Function;
+use crate::calls::{Function, Kind, ACCEPTED, MIXED, USUAL};
 use crate::declarations::*;
 use crate::rng::Rng;
 use crate::sum::{ask, row, Given, Sum};
@@ -15,8 +15,15 @@ use std::slice;
 const SIZE: usize = 64;
 const HEAD: usize = 6;
 
-pub const EVERY_FIELD: Function =
-    Function { name: "PES header, every field", library, rust, count: 1_000_000, size: SIZE, make };
+pub const EVERY_FIELD: Function = Function {
+    name: "PES header, every field",
+    library,
+    rust,
+    count: 1_000_000,
+    size: SIZE,
+    make,
+    rows: &[ACCEPTED, MIXED, USUAL],
+};
 
 /// The same at one call for the head and one for the contents.
 pub const EVERY_FIELD_AT_ONCE: Function =
@@ -150,19 +157,27 @@ fn given<const N: usize>(result: Result<[u64; N], PesError>) -> Given<N> {
 
 // ---- Inputs.
 
-/// A video header with every field and every marker; or one with any flags, some of them with a bare id, refused contents or a wrong
-/// start code.
-fn make(bytes: &mut [u8], rng: &mut Rng, accepted: bool) {
+/// A video header with every field and every marker; one with any flags, some of them with a bare id, refused contents or a wrong
+/// start code; or one with a PTS, or a PTS and a DTS, and no other field.
+fn make(bytes: &mut [u8], rng: &mut Rng, kind: Kind) {
     bytes[..4].copy_from_slice(&[0, 0, 1, 0xe0]);
     bytes[6] = bytes[6] & 0x3f | 0x80;
-    if accepted {
-        bytes[7] = 0xff;
-        bytes[8] = 25;
-        set_markers(&mut bytes[9..]);
-        set_markers(&mut bytes[14..]);
-        bytes[29] |= 0x80;
-        return;
+    match kind {
+        Kind::Accepted => with_all(bytes),
+        Kind::Any => with_any(bytes, rng),
+        Kind::Usual => with_times(bytes, rng),
     }
+}
+
+fn with_all(bytes: &mut [u8]) {
+    bytes[7] = 0xff;
+    bytes[8] = 25;
+    set_markers(&mut bytes[9..]);
+    set_markers(&mut bytes[14..]);
+    bytes[29] |= 0x80;
+}
+
+fn with_any(bytes: &mut [u8], rng: &mut Rng) {
     bytes[8] = 20 + rng.below(10) as u8;
     match rng.below(8) {
         0 => bytes[2] = 0,
@@ -171,4 +186,10 @@ fn make(bytes: &mut [u8], rng: &mut Rng, accepted: bool) {
         3 => bytes[8] = rng.next() as u8,
         _ => set_markers(&mut bytes[9..]),
     }
+}
+
+fn with_times(bytes: &mut [u8], rng: &mut Rng) {
+    (bytes[7], bytes[8]) = if rng.below(2) == 0 { (0x80, 5) } else { (0xc0, 10) };
+    set_markers(&mut bytes[9..]);
+    set_markers(&mut bytes[14..]);
 }

@@ -1,6 +1,6 @@
 //! Packets: every field of the packet and of its adaptation field, read once.
 
-use crate::calls::Function;
+use crate::calls::{Function, Kind, ACCEPTED, MIXED};
 use crate::declarations::*;
 use crate::rng::Rng;
 use crate::sum::{ask, row, Given, Sum};
@@ -8,8 +8,15 @@ use crate::values;
 use mpeg2ts_reader::packet::{AdaptationField, AdaptationFieldError, Packet};
 use std::slice;
 
-pub const EVERY_FIELD: Function =
-    Function { name: "packet, every field", library, rust, count: 100_000, size: Packet::SIZE, make };
+pub const EVERY_FIELD: Function = Function {
+    name: "packet, every field",
+    library,
+    rust,
+    count: 100_000,
+    size: Packet::SIZE,
+    make,
+    rows: &[ACCEPTED, MIXED],
+};
 
 /// The same, but for the adaptation field, at one call.
 pub const EVERY_FIELD_AT_ONCE: Function =
@@ -109,9 +116,9 @@ fn given<const N: usize>(result: Result<[u64; N], AdaptationFieldError>) -> Give
 
 /// A packet with an adaptation field that has every field, and with a payload; or one with any header, some of them without a sync
 /// byte.
-fn make(bytes: &mut [u8], rng: &mut Rng, accepted: bool) {
+fn make(bytes: &mut [u8], rng: &mut Rng, kind: Kind) {
     bytes[0] = Packet::SYNC_BYTE;
-    if accepted {
+    if kind == Kind::Accepted {
         bytes[3] |= 0x30;
         bytes[4] = 20;
         bytes[5] |= 0x1c;

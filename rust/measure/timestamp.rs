@@ -1,6 +1,6 @@
 //! Timestamps, read alone.
 
-use crate::calls::Function;
+use crate::calls::{Function, Kind, ACCEPTED, MIXED};
 use crate::declarations::{cmv_timestamp_from_bytes, cmv_timestamp_from_pts_bytes};
 use crate::rng::Rng;
 use mpeg2ts_reader::pes::{Timestamp, TimestampError};
@@ -16,6 +16,7 @@ pub const FROM_BYTES: Function = Function {
     count: COUNT,
     size: SIZE,
     make,
+    rows: &[ACCEPTED, MIXED],
 };
 
 pub const FROM_PTS_BYTES: Function = Function {
@@ -25,6 +26,7 @@ pub const FROM_PTS_BYTES: Function = Function {
     count: COUNT,
     size: SIZE,
     make,
+    rows: &[ACCEPTED, MIXED],
 };
 
 #[inline(never)]
@@ -52,9 +54,9 @@ fn told(result: Result<Timestamp, TimestampError>, value: &mut u64) -> u32 {
 }
 
 /// The prefix of a PTS, and every marker or any.
-fn make(stamp: &mut [u8], _rng: &mut Rng, accepted: bool) {
+fn make(stamp: &mut [u8], _rng: &mut Rng, kind: Kind) {
     stamp[0] = stamp[0] & 0x0f | 0x20;
-    if accepted {
+    if kind == Kind::Accepted {
         set_markers(stamp);
     }
 }
