@@ -2,9 +2,9 @@
 -- Assumes nothing.
 use mathlib.Core.Path.{_≡_, refl, sym, ap, ap₂, _∙_}
 use mathlib.Core.Bool.{Bool, true, false, not}
-use mathlib.Core.List.{List, [], _∷_}
+use mathlib.Core.List.{List, [], _∷_, _++_}
 use Prim.Native.Nat.{ℕ, suc, _+_, _-_, _*_, _/_, _%_, _^_, _≤_, _<_}
-use native.Mathlib.Nat.{div-one}
+use native.Mathlib.Nat.{div-one, div-mul-le-self, lt-of-le-of-lt}
 use native.Mathlib.Omega.{arith}
 use mathlib.Core.Logic.{_⊎_, ⊎-elim}
 use types.Run.{OneOf}
@@ -34,13 +34,16 @@ use Rattle.contents.specs.declared.ContentsRead.{ContentsRead}
 use Rattle.contents.specs.declared.StampRead.{StampRead}
 use Rattle.contents.specs.declared.PtsDts.{PtsDts}
 use Rattle.contents.specs.declared.EscrRead.{EscrRead}
+use Rattle.contents.specs.declared.CopyInfoRead.{CopyInfoRead}
 use Rattle.contents.specs.declared.PartRead.{PartRead}
+use Rattle.contents.specs.declared.PlacesRead.{PlacesRead}
 use Rattle.contents.proofs.PartRead.{the-type}
-use Rattle.contents.specs.Given.{refusal, givenContents, givenStamp, givenPtsDts, givenEscr, givenPart}
-use Rattle.contents.specs.Contents.{dataLength, timesSize, escrAt, esRateAt, trickAt, copyInfoAt, crcAt, fieldsEnd, payloadAt, notContents}
+use Rattle.contents.proofs.Ends.{times-end, escr-end, rate-end, trick-end, copy-end, crc-end, rate-small, trick-small, copy-small, crc-small, end-least}
+use Rattle.contents.specs.Given.{refusal, givenContents, givenStamp, givenPtsDts, givenEscr, givenCopyInfo, givenPart, givenPlaces}
+use Rattle.contents.specs.Contents.{flagByte, dataLength, timesSize, escrAt, esRateAt, trickAt, copyInfoAt, crcAt, fieldsEnd, payloadAt, notContents}
 use Rattle.contents.specs.Contents.{ptsBit, dtsBit, escrBit, esRateBit, trickBit, copyInfoBit, crcBit, pesExtensionBit}
-use Rattle.contents.specs.Contents.{flagged, readContents, readPtsDts, escrBase, escrExtension, escrAnswer, rateOf, readEscr}
-use Rattle.contents.specs.Contents.{readEsRate, readCopyInfo, readCrc, readPesExtension, readParsedPayload, makeRate, rateBytes}
+use Rattle.contents.specs.Contents.{flagged, readContents, readPtsDts, escrBase, escrExtension, escrAnswer, rateOf, copyInfoOf, readEscr}
+use Rattle.contents.specs.Contents.{readEsRate, readCopyInfo, readCrc, readPesExtension, readParsedPayload, placesOf, readPlaces, makeRate, rateBytes}
 use Rattle.contents.specs.Trick.{control, trickOf, trickByte, truncationBits, readTrick, readRawTrick}
 
 -- ---- where things stand
@@ -64,9 +67,15 @@ module _ (c : List ℕ) where
     unfolding field
     two-flags = omega (arith, bit-below c ptsBit, bit-below c dtsBit)
 
-    pub times-none : f < 2 → 3 ≡ escrAt c
+    times-none : f < 2 → 3 ≡ escrAt c
     unfolding escrAt timesSize
     times-none h = simp (ne-eqb (bit c 8) 1 (omega (arith, two-flags)))
+
+    pub times-absent-end : f ≡ 0 → 3 ≡ escrAt c
+    times-absent-end h = times-none (omega arith)
+
+    pub times-invalid-end : f ≡ 1 → 3 ≡ escrAt c
+    times-invalid-end h = times-none (omega arith)
 
     pub times-one : f ≡ 2 → 8 ≡ escrAt c
     unfolding escrAt timesSize
@@ -76,50 +85,45 @@ module _ (c : List ℕ) where
     unfolding escrAt timesSize
     times-two h = simp (eq-eqb (bit c 8) 1 (omega (arith, two-flags))) (omega (arith, two-flags))
 
-    pub times-other : 2 ≤ f → (f ≡ 3 → ⊥) → 8 ≡ escrAt c
-    times-other h n = times-one (omega (arith, two-flags))
+    pub times-other : (f ≡ 0 → ⊥) → (f ≡ 1 → ⊥) → (f ≡ 2 → ⊥) → 13 ≡ escrAt c
+    times-other x y z = times-two (omega (arith, two-flags))
 
-  -- where the field after one that its flag says is there, or is not, stands
-  module _ (at : ℕ) (f : Bool) where
-    pub escr-skipped : at ≡ escrAt c → f ≡ flag c escrBit → f ≡ false → at ≡ esRateAt c
-    unfolding esRateAt
-    escr-skipped p e n = omega (arith, clear escrBit f e n)
+  -- where a field ends, by the entry of the flags that are left; and how far that is at most
+  module _ (k : Known c) (r : ℕ) where
+    pub escr-passed : r ≡ fieldsEnd (flagByte (getD c 1 0 / 32 * 32)) → r ≡ esRateAt c
+    escr-passed e = e ∙ escr-end c (getD c 1 0) refl (k 1 .fits)
 
-    pub escr-passed : at ≡ escrAt c → f ≡ flag c escrBit → f ≡ true → at + 6 ≡ esRateAt c
-    unfolding esRateAt
-    escr-passed p e n = omega (arith, set escrBit f e n)
+    pub escr-near : r ≡ fieldsEnd (flagByte (getD c 1 0 / 32 * 32)) → r ≤ 19
+    escr-near e = omega (arith, escr-passed e, rate-small c)
 
-    pub rate-skipped : at ≡ esRateAt c → f ≡ flag c esRateBit → f ≡ false → at ≡ trickAt c
-    unfolding trickAt
-    rate-skipped p e n = omega (arith, clear esRateBit f e n)
+    pub rate-passed : r ≡ fieldsEnd (flagByte (getD c 1 0 / 16 * 16)) → r ≡ trickAt c
+    rate-passed e = e ∙ rate-end c (getD c 1 0) refl (k 1 .fits)
 
-    pub rate-passed : at ≡ esRateAt c → f ≡ flag c esRateBit → f ≡ true → at + 3 ≡ trickAt c
-    unfolding trickAt
-    rate-passed p e n = omega (arith, set esRateBit f e n)
+    pub rate-near : r ≡ fieldsEnd (flagByte (getD c 1 0 / 16 * 16)) → r ≤ 22
+    rate-near e = omega (arith, rate-passed e, trick-small c)
 
-    pub trick-skipped : at ≡ trickAt c → f ≡ flag c trickBit → f ≡ false → at ≡ copyInfoAt c
-    unfolding copyInfoAt
-    trick-skipped p e n = omega (arith, clear trickBit f e n)
+    pub trick-passed : r ≡ fieldsEnd (flagByte (getD c 1 0 / 8 * 8)) → r ≡ copyInfoAt c
+    trick-passed e = e ∙ trick-end c (getD c 1 0) refl (k 1 .fits)
 
-    pub trick-passed : at ≡ trickAt c → f ≡ flag c trickBit → f ≡ true → at + 1 ≡ copyInfoAt c
-    unfolding copyInfoAt
-    trick-passed p e n = omega (arith, set trickBit f e n)
+    pub trick-near : r ≡ fieldsEnd (flagByte (getD c 1 0 / 8 * 8)) → r ≤ 23
+    trick-near e = omega (arith, trick-passed e, copy-small c)
 
-    pub copy-skipped : at ≡ copyInfoAt c → f ≡ flag c copyInfoBit → f ≡ false → at ≡ crcAt c
-    unfolding crcAt
-    copy-skipped p e n = omega (arith, clear copyInfoBit f e n)
+    pub copy-passed : r ≡ fieldsEnd (flagByte (getD c 1 0 / 4 * 4)) → r ≡ crcAt c
+    copy-passed e = e ∙ copy-end c (getD c 1 0) refl (k 1 .fits)
 
-    pub copy-passed : at ≡ copyInfoAt c → f ≡ flag c copyInfoBit → f ≡ true → at + 1 ≡ crcAt c
-    unfolding crcAt
-    copy-passed p e n = omega (arith, set copyInfoBit f e n)
+    pub copy-near : r ≡ fieldsEnd (flagByte (getD c 1 0 / 4 * 4)) → r ≤ 24
+    copy-near e = omega (arith, copy-passed e, crc-small c)
 
-    pub crc-skipped : at ≡ crcAt c → f ≡ flag c crcBit → f ≡ false → at ≡ fieldsEnd c
-    unfolding fieldsEnd
-    crc-skipped p e n = omega (arith, clear crcBit f e n)
+  module _ (r : ℕ) where
+    pub crc-passed : r ≡ fieldsEnd (flagByte (getD c 1 0)) → r ≡ fieldsEnd c
+    crc-passed e = e ∙ crc-end c (getD c 1 0) refl
 
-    pub crc-passed : at ≡ crcAt c → f ≡ flag c crcBit → f ≡ true → at + 2 ≡ fieldsEnd c
-    unfolding fieldsEnd
-    crc-passed p e n = omega (arith, set crcBit f e n)
+    pub crc-near : r ≡ fieldsEnd (flagByte (getD c 1 0)) → r ≤ 26
+    crc-near e = omega (arith, end-least (flagByte (getD c 1 0)))
+
+  -- an entry that is read by its number
+  pub crc-known : (f r : ℕ) → getD c 1 0 ≡ f → r ≡ fieldsEnd (flagByte f) → r ≡ fieldsEnd c
+  crc-known f r b e = e ∙ crc-end c f (sym b)
 
   -- the second byte's flags, as the code takes them off it
   pub first-flags : Known c → getD c 1 0 / 64 ≡ field c ptsBit 2
@@ -170,7 +174,7 @@ module _ (c : List ℕ) (a : Answer) where
       simp (le-ltb (length c) 3 (h .0), eq-eqb (field c 0 2) 2 (in-byte c 0 0 2 6 refl ∙ h .1), le-ltb (length c) (payloadAt c) (h .2), le-ltb (payloadAt c) (fieldsEnd c) (h .3))
 
 -- no refusal has the number of an accepted answer
-not-done : (r : Refusal) → 0 < refusal r .number
+pub not-done : (r : Refusal) → 0 < refusal r .number
 not-done Refusal.ShortContents = omega arith
 not-done Refusal.BadCheckBits = omega arith
 not-done Refusal.HeaderPastBuffer = omega arith
@@ -230,22 +234,25 @@ module _ (xs : List ℕ) where
   escr-low : field xs 22 15 ≡ getD xs 2 0 % 4 * 8192 + getD xs 3 0 % 256 * 32 + getD xs 4 0 / 8 % 32
   escr-low = omega (arith, field-split xs 22 2 13, field-split xs 24 8 5, in-byte xs 2 6 2 0 refl, in-byte xs 3 0 8 0 refl, in-byte xs 4 0 5 3 refl)
 
+  escr-last : field xs 38 9 ≡ getD xs 4 0 % 4 * 128 + getD xs 5 0 / 2 % 128
+  escr-last = omega (arith, field-split xs 38 2 7, in-byte xs 4 6 2 0 refl, in-byte xs 5 0 7 1 refl)
+
   -- its base and its extension fit
   escr-made : answer 0 (escrBase xs ∷ escrExtension xs ∷ []) ≡ makeClock (escrBase xs) (escrExtension xs)
   unfolding escrBase escrExtension
   escr-made = made _ _ (omega (arith, field-below xs 2 3, field-below xs 6 15, field-below xs 22 15), field-below xs 38 9)
 
-  pub escr-is : (b m l e : ℕ) (j k : ClockMade) → j ≡ k → givenMade j ≡ makeClock (b * 1073741824 + m * 32768 + l) e
-      → (b ≡ getD xs 0 0 / 8 % 8)
-      × (m ≡ getD xs 0 0 % 4 * 8192 + getD xs 1 0 % 256 * 32 + getD xs 2 0 / 8 % 32)
-      × (l ≡ getD xs 2 0 % 4 * 8192 + getD xs 3 0 % 256 * 32 + getD xs 4 0 / 8 % 32)
-      × (e ≡ getD xs 4 0 % 4 * 128 + getD xs 5 0 / 2 % 128)
-      → givenMade k ≡ escrAnswer xs
+  -- what is made of them is the answer
+  pub escr-is : (b e : ℕ) (j k : ClockMade) → j ≡ k → givenMade j ≡ makeClock b e → b ≡ escrBase xs → e ≡ escrExtension xs → givenMade k ≡ escrAnswer xs
+  escr-is b e j k f g p q = sym (ap givenMade f) ∙ (g ∙ (ap₂ makeClock p q ∙ sym escr-made))
+
+  -- by its six bytes
+  escr-parts : escrAnswer xs
+      ≡ answer 0 ((getD xs 0 0 / 8 % 8 * 2 ^ 30 + (getD xs 0 0 % 4 * 8192 + getD xs 1 0 % 256 * 32 + getD xs 2 0 / 8 % 32) * 2 ^ 15
+      + (getD xs 2 0 % 4 * 8192 + getD xs 3 0 % 256 * 32 + getD xs 4 0 / 8 % 32))
+      ∷ (getD xs 4 0 % 4 * 128 + getD xs 5 0 / 2 % 128) ∷ [])
   unfolding escrBase escrExtension
-  escr-is b m l e j k f g h =
-      let p : b * 1073741824 + m * 32768 + l ≡ escrBase xs = rw (h .0, h .1, h .2, ← escr-middle, ← escr-low, ← in-byte xs 0 2 3 3 refl) in
-      let q : e ≡ escrExtension xs = omega (arith, field-split xs 38 2 7, in-byte xs 4 6 2 0 refl, in-byte xs 5 0 7 1 refl) in
-      sym (ap givenMade f) ∙ (g ∙ (ap₂ makeClock p q ∙ sym escr-made))
+  escr-parts = rw (in-byte xs 0 2 3 3 refl, escr-middle, escr-low, escr-last)
 
   -- so that it is out of range does not arise
   pub escr-out : givenMade ClockMade.OutOfRange ≡ escrAnswer xs → answer 9 [] ≡ escrAnswer xs
@@ -254,6 +261,21 @@ module _ (xs : List ℕ) where
 -- ---- what stands at a place
 
 module _ (c : List ℕ) (at : ℕ) where
+  -- the bytes from there on, one by one
+  abbrev pub two : List ℕ
+  two = getD c at 0 ∷ getD c (at + 1) 0 ∷ []
+
+  abbrev pub three : List ℕ
+  three = getD c at 0 ∷ getD c (at + 1) 0 ∷ getD c (at + 2) 0 ∷ []
+
+  abbrev pub six : List ℕ
+  six = getD c at 0 ∷ getD c (at + 1) 0 ∷ getD c (at + 2) 0 ∷ getD c (at + 3) 0 ∷ getD c (at + 4) 0 ∷ getD c (at + 5) 0 ∷ []
+
+  escr-of : escrAnswer six ≡ escrAnswer (drop at c)
+  escr-of =
+      escr-parts six
+      ∙ sym (escr-parts (drop at c) ∙ rw (first-left at c, getD-drop at c 1 0, getD-drop at c 2 0, getD-drop at c 3 0, getD-drop at c 4 0, getD-drop at c 5 0))
+
   rate-of : rateOf (drop at c) ≡ getD c at 0 % 128 * 32768 + getD c (at + 1) 0 % 256 * 128 + getD c (at + 2) 0 / 2 % 128
   unfolding rateOf
   rate-of =
@@ -282,6 +304,20 @@ module _ (c : List ℕ) (at : ℕ) where
       let b : List ℕ = getD c at 0 ∷ [] in
       let t : List ℕ = drop (suc at) c in
       rw (drop-cons c at 0 h, field-left b t 0 3 (omega arith), field-left b t 3 2 (omega arith), field-left b t 5 3 (omega arith), field-left b t 6 2 (omega arith), bit-left b t 5 (omega arith))
+
+  copy-of : at < length c → copyInfoOf (getD c at 0 ∷ []) ≡ copyInfoOf (drop at c)
+  copy-of h =
+      let b : List ℕ = getD c at 0 ∷ [] in
+      let t : List ℕ = drop (suc at) c in
+      rw (drop-cons c at 0 h, field-left b t 1 7 (omega arith), bit-left b t 0 (omega arith))
+
+-- three bytes and two, where nothing follows them
+module _ (c : List ℕ) (at : ℕ) where
+  three-of : rateOf (three c at) ≡ rateOf (drop at c)
+  three-of = rate-of (three c at) 0 ∙ sym (rate-of c at)
+
+  two-of : field (two c at) 0 16 ≡ field (drop at c) 0 16
+  two-of = crc-of (two c at) 0 ∙ sym (crc-of c at)
 
 -- ---- both parts lie within the contents
 
@@ -338,11 +374,19 @@ module _ (c : List ℕ) where
   pub sum-wide : (i : ℕ) → Known c → 3 + getD c i 0 < 2 ^ 64
   sum-wide i k = omega (arith, k i)
 
+  -- flags that are left where later ones are cleared
+  pub left-fits : (i d : ℕ) → Known c → getD c i 0 / d * d < 2 ^ 8
+  left-fits i d k = lt-of-le-of-lt (div-mul-le-self (getD c i 0) d) (k i .fits)
+
   pub end-at : Known c → 3 + getD c 2 0 ≡ payloadAt c
   end-at k = payload-at c (k 2 .fits)
 
   pub end-small : Known c → 3 + getD c 2 0 ≤ 258
   end-small k = omega (arith, k 2)
+
+  -- 26 is the furthest that the flagged fields can end
+  pub roomy : (p : ℕ) → p ≡ payloadAt c → 3 ≤ length c → getD c 0 0 / 64 ≡ 2 → p ≤ length c → 26 ≤ p → answer 0 [] ≡ readContents c
+  roomy p e h n l m = sym (contents-is c _ (omega (arith, end-least c)))
 
   pub all-on : (p q : ℕ) → p ≡ payloadAt c → q ≡ fieldsEnd c → 3 ≤ length c → getD c 0 0 / 64 ≡ 2 → p ≤ length c → q ≤ p → answer 0 [] ≡ readContents c
   all-on p q e f h n l m = sym (contents-is c _ (omega arith))
@@ -409,70 +453,102 @@ module _ (c : List ℕ) (ok : Accepted c) where
     pts-and-dts p q x y z r s =
         sym (ok .is _ ∙ simp (eq-eqb (bit c 8) 1 (omega (arith, two-flags c f e)), eq-eqb (bit c 9) 1 (omega (arith, two-flags c f e)), ← r, ← s))
 
+  -- a field that is there lies within the contents, and is read off its bytes
+  module _ (at : ℕ) (p : at ≡ escrAt c) (n : bit c escrBit ≡ 1) where
+    pub escr-fits : at + 6 ≤ length c
+    unfolding fieldsEnd crcAt copyInfoAt trickAt esRateAt
+    escr-fits = omega arith
+
+    pub escr-there : escrAnswer (six c at) ≡ readEscr c
+    escr-there = escr-of c at ∙ rw p (sym (field-on c escrBit _ ok n))
+
+  module _ (at : ℕ) (p : at ≡ esRateAt c) (n : bit c esRateBit ≡ 1) where
+    pub rate-fits : at + 3 ≤ length c
+    unfolding fieldsEnd crcAt copyInfoAt trickAt
+    rate-fits = omega arith
+
+    pub rate-there : answer 0 (rateOf (three c at) ∷ []) ≡ readEsRate c
+    rate-there = rw (three-of c at, p) (sym (field-on c esRateBit _ ok n))
+
+  module _ (at : ℕ) (p : at ≡ trickAt c) (n : bit c trickBit ≡ 1) where
+    pub trick-fits : at < length c
+    unfolding fieldsEnd crcAt copyInfoAt
+    trick-fits = omega arith
+
+    pub trick-there : answer 0 (trickByte (getD c at 0)) ≡ readTrick c
+    trick-there = rw (← trick-of c at trick-fits, p) (sym (field-on c trickBit _ ok n))
+
+    pub raw-there : Known c → answer 0 (getD c at 0 ∷ []) ≡ readRawTrick c
+    raw-there k = rw (← first-left at c, ← byte-field (drop at c) 0 (omega (arith, first-left at c, k at)), p) (sym (field-on c trickBit _ ok n))
+
+  module _ (at : ℕ) (p : at ≡ copyInfoAt c) (n : bit c copyInfoBit ≡ 1) where
+    pub copy-fits : at < length c
+    unfolding fieldsEnd crcAt
+    copy-fits = omega arith
+
+    pub copy-there : copyInfoOf (getD c at 0 ∷ []) ≡ readCopyInfo c
+    copy-there = copy-of c at copy-fits ∙ rw p (sym (field-on c copyInfoBit _ ok n))
+
+  module _ (at : ℕ) (p : at ≡ crcAt c) (n : bit c crcBit ≡ 1) where
+    pub crc-fits : at + 2 ≤ length c
+    unfolding fieldsEnd
+    crc-fits = omega arith
+
+    pub crc-there : answer 0 (field (two c at) 0 16 ∷ []) ≡ readCrc c
+    crc-there = rw (two-of c at, p) (sym (field-on c crcBit _ ok n))
+
+  -- the same, by the test of the flag
   module _ (at : ℕ) (p : at ≡ escrAt c) (f : Bool) (e : f ≡ flag c escrBit) (n : f ≡ true) where
-    pub escr-start : at ≤ length c
-    unfolding fieldsEnd crcAt copyInfoAt trickAt esRateAt
-    escr-start = omega (arith, set c escrBit f e n)
+    pub escr-first : at < length c
+    escr-first = omega (arith, escr-fits at p (set c escrBit f e n))
 
-    pub escr-room : 6 ≤ length (take (length c - at) (drop at c))
-    unfolding fieldsEnd crcAt copyInfoAt trickAt esRateAt
-    escr-room = rw (part-rest at c, length-drop) (omega (arith, set c escrBit f e n))
+    pub escr-later : (k : ℕ) → k < 6 → at + k < length c
+    escr-later k l = omega (arith, escr-fits at p (set c escrBit f e n))
 
-    pub escr-done : (x : EscrRead) → givenEscr x ≡ escrAnswer (take (length c - at) (drop at c)) → givenEscr x ≡ readEscr c
-    escr-done x g = rw (g, part-rest at c, p) (sym (field-on c escrBit _ ok (set c escrBit f e n)))
+    pub escr-done : (x : EscrRead) → givenEscr x ≡ escrAnswer (six c at) → givenEscr x ≡ readEscr c
+    escr-done x g = g ∙ escr-there at p (set c escrBit f e n)
 
   module _ (at : ℕ) (p : at ≡ esRateAt c) (f : Bool) (e : f ≡ flag c esRateBit) (n : f ≡ true) where
     pub rate-first : at < length c
-    unfolding fieldsEnd crcAt copyInfoAt trickAt
-    rate-first = omega (arith, set c esRateBit f e n)
+    rate-first = omega (arith, rate-fits at p (set c esRateBit f e n))
 
     pub rate-later : (k : ℕ) → k < 3 → at + k < length c
-    unfolding fieldsEnd crcAt copyInfoAt trickAt
-    rate-later k l = omega (arith, set c esRateBit f e n)
+    rate-later k l = omega (arith, rate-fits at p (set c esRateBit f e n))
 
-    pub rate-done : (u v w : ℕ) → (u ≡ getD c at 0) × (u < 256) → (v ≡ getD c (at + 1) 0) × (v < 256) → (w ≡ getD c (at + 2) 0) × (w < 256)
-        → answer 0 ((u % 128 * 32768 + v * 128 + w / 2) ∷ []) ≡ readEsRate c
-    rate-done u v w i j k =
-        let q : u % 128 * 32768 + v * 128 + w / 2 ≡ rateOf (drop at c) = omega (arith, rate-of c at) in
-        rw (q, p) (sym (field-on c esRateBit _ ok (set c esRateBit f e n)))
+    pub rate-done : (r : ℕ) → r ≡ rateOf (three c at) → answer 0 (r ∷ []) ≡ readEsRate c
+    rate-done r g = rw g (rate-there at p (set c esRateBit f e n))
 
   module _ (at : ℕ) (p : at ≡ trickAt c) (f : Bool) (e : f ≡ flag c trickBit) (n : f ≡ true) where
     pub trick-first : at < length c
-    unfolding fieldsEnd crcAt copyInfoAt
-    trick-first = omega (arith, set c trickBit f e n)
+    trick-first = trick-fits at p (set c trickBit f e n)
 
     pub trick-done : (t : List ℕ) → t ≡ trickByte (getD c at 0) → answer 0 t ≡ readTrick c
-    trick-done t g = rw (g, ← trick-of c at trick-first, p) (sym (field-on c trickBit _ ok (set c trickBit f e n)))
+    trick-done t g = rw g (trick-there at p (set c trickBit f e n))
 
     pub raw-done : Known c → answer 0 (getD c at 0 ∷ []) ≡ readRawTrick c
-    raw-done k = rw (← first-left at c, ← byte-field (drop at c) 0 (omega (arith, first-left at c, k at)), p) (sym (field-on c trickBit _ ok (set c trickBit f e n)))
+    raw-done k = raw-there at p (set c trickBit f e n) k
 
   module _ (at : ℕ) (p : at ≡ copyInfoAt c) (f : Bool) (e : f ≡ flag c copyInfoBit) (n : f ≡ true) where
     pub copy-first : at < length c
-    unfolding fieldsEnd crcAt
-    copy-first = omega (arith, set c copyInfoBit f e n)
+    copy-first = copy-fits at p (set c copyInfoBit f e n)
 
-    pub copy-marker : getD c at 0 / 128 ≡ 0 → answer 12 (0 ∷ []) ≡ readCopyInfo c
-    unfolding bit
-    copy-marker m = sym (field-on c copyInfoBit _ ok (set c copyInfoBit f e n) ∙ rw (← p, ne-eqb (bit (drop at c) 0) 1 (omega (arith, first-left at c))))
-
-    pub copy-done : Known c → (getD c at 0 / 128 ≡ 0 → ⊥) → answer 0 (getD c at 0 % 128 ∷ []) ≡ readCopyInfo c
-    unfolding bit
-    copy-done k m =
-        let q : field (drop at c) 1 7 ≡ getD c at 0 % 128 = omega (arith, in-byte (drop at c) 0 1 7 0 refl, first-left at c) in
-        sym (field-on c copyInfoBit _ ok (set c copyInfoBit f e n) ∙ rw (← p, eq-eqb (bit (drop at c) 0) 1 (omega (arith, first-left at c, k at)), q))
+    pub copy-done : (x : CopyInfoRead) → givenCopyInfo x ≡ copyInfoOf (getD c at 0 ∷ []) → givenCopyInfo x ≡ readCopyInfo c
+    copy-done x g = g ∙ copy-there at p (set c copyInfoBit f e n)
 
   module _ (at : ℕ) (p : at ≡ crcAt c) (f : Bool) (e : f ≡ flag c crcBit) (n : f ≡ true) where
     pub crc-first : at < length c
-    unfolding fieldsEnd
-    crc-first = omega (arith, set c crcBit f e n)
+    crc-first = omega (arith, crc-fits at p (set c crcBit f e n))
 
     pub crc-later : (k : ℕ) → k < 2 → at + k < length c
-    unfolding fieldsEnd
-    crc-later k l = omega (arith, set c crcBit f e n)
+    crc-later k l = omega (arith, crc-fits at p (set c crcBit f e n))
 
-    pub crc-done : (u v : ℕ) → (u ≡ getD c at 0) × (u < 256) → (v ≡ getD c (at + 1) 0) × (v < 256) → answer 0 ((u * 256 + v) ∷ []) ≡ readCrc c
-    crc-done u v i j = let q : u * 256 + v ≡ field (drop at c) 0 16 = omega (arith, crc-of c at) in rw (q, p) (sym (field-on c crcBit _ ok (set c crcBit f e n)))
+    pub crc-done : (r : ℕ) → r ≡ field (two c at) 0 16 → answer 0 (r ∷ []) ≡ readCrc c
+    crc-done r g = rw g (crc-there at p (set c crcBit f e n))
+
+  -- all places, by the flags' byte
+  pub places-done : (x : PlacesRead) (p : ℕ) → givenPlaces x ≡ answer 0 (placesOf (flagByte (getD c 1 0)) ++ p ∷ []) → p ≡ payloadAt c → givenPlaces x ≡ readPlaces c
+  unfolding placesOf fieldsEnd crcAt copyInfoAt trickAt esRateAt escrAt timesSize bit
+  places-done x p g e = g ∙ (ap (λ (n : ℕ). answer 0 (placesOf c ++ n ∷ [])) e ∙ sym (ok .is _))
 
   module _ (end : ℕ) (p : end ≡ payloadAt c) where
     pub end-in : end ≤ length c
@@ -504,16 +580,60 @@ module _ (c : List ℕ) (r : ContentsRead) (e : r ≡ ContentsRead.Done) (g : gi
     pub first-of-two : 8 ≤ length c
     first-of-two = omega (arith, dts-there)
 
--- the clock reference, by its six bytes
-module _ (xs : List ℕ) (a b d x y z : ℕ) (j : ClockMade)
-    (g : givenMade j ≡ makeClock (a / 8 % 8 * 1073741824 + (a % 4 * 8192 + b * 32 + d / 8) * 32768 + (d % 4 * 8192 + x * 32 + y / 8)) (y % 4 * 128 + z / 2))
-    (ea : (a ≡ getD xs 0 0) × (a < 256)) (eb : (b ≡ getD xs 1 0) × (b < 256)) (ed : (d ≡ getD xs 2 0) × (d < 256)) (ex : (x ≡ getD xs 3 0) × (x < 256))
-    (ey : (y ≡ getD xs 4 0) × (y < 256)) (ez : (z ≡ getD xs 5 0) × (z < 256)) where
+-- the clock reference, by its two numbers
+module _ (xs : List ℕ) (b e : ℕ) (j : ClockMade) (g : givenMade j ≡ makeClock b e) (p : b ≡ escrBase xs) (q : e ≡ escrExtension xs) where
   pub clock-done : (k : ClockRef) → j ≡ ClockMade.Done k → answer 0 (clockValues k) ≡ escrAnswer xs
-  clock-done k e = escr-is xs _ _ _ _ j _ e g (omega arith)
+  clock-done k f = escr-is xs b e j _ f g p q
 
   pub clock-out : j ≡ ClockMade.OutOfRange → answer 9 [] ≡ escrAnswer xs
-  clock-out e = escr-out xs (escr-is xs _ _ _ _ j _ e g (omega arith))
+  clock-out f = escr-out xs (escr-is xs b e j _ f g p q)
+
+-- and they, by its six bytes: three of them make fifteen bits
+fifteen : (a b d u v w : ℕ) → (a ≡ u) × (a < 256) → (b ≡ v) × (b < 256) → (d ≡ w) × (d < 256)
+    → a % 4 * 8192 + b * 32 + d / 8 ≡ u % 4 * 8192 + v % 256 * 32 + w / 8 % 32
+fifteen a b d u v w p q r = omega arith
+
+module _ (u v w r s t : ℕ) where
+  pub base-bytes : (a b d x y : ℕ) → (a ≡ u) × (a < 256) → (b ≡ v) × (b < 256) → (d ≡ w) × (d < 256) → (x ≡ r) × (x < 256) → (y ≡ s) × (y < 256)
+      → a / 8 % 8 * 1073741824 + (a % 4 * 8192 + b * 32 + d / 8) * 32768 + (d % 4 * 8192 + x * 32 + y / 8) ≡ escrBase (u ∷ v ∷ w ∷ r ∷ s ∷ t ∷ [])
+  unfolding escrBase
+  base-bytes a b d x y ea eb ed ex ey =
+      let xs : List ℕ = u ∷ v ∷ w ∷ r ∷ s ∷ t ∷ [] in
+      rw (fifteen a b d u v w ea eb ed, fifteen d x y w r s ed ex ey, ea .0, in-byte xs 0 2 3 3 refl, escr-middle xs, escr-low xs)
+
+  pub extension-bytes : (y z : ℕ) → (y ≡ s) × (y < 256) → (z ≡ t) × (z < 256) → y % 4 * 128 + z / 2 ≡ escrExtension (u ∷ v ∷ w ∷ r ∷ s ∷ t ∷ [])
+  unfolding escrExtension
+  extension-bytes y z ey ez = omega (arith, escr-last (u ∷ v ∷ w ∷ r ∷ s ∷ t ∷ []))
+
+-- the other fields, by their bytes
+pub rate-bytes : (u v w a b d : ℕ) → (u ≡ a) × (u < 256) → (v ≡ b) × (v < 256) → (w ≡ d) × (w < 256) → u % 128 * 32768 + v * 128 + w / 2 ≡ rateOf (a ∷ b ∷ d ∷ [])
+rate-bytes u v w a b d i j k = omega (arith, rate-of (a ∷ b ∷ d ∷ []) 0)
+
+pub crc-bytes : (u v a b : ℕ) → (u ≡ a) × (u < 256) → (v ≡ b) × (v < 256) → u * 256 + v ≡ field (a ∷ b ∷ []) 0 16
+crc-bytes u v a b i j = omega (arith, crc-of (a ∷ b ∷ []) 0)
+
+module _ (b : ℕ) where
+  pub copy-marker : b / 128 ≡ 0 → answer 12 (0 ∷ []) ≡ copyInfoOf (b ∷ [])
+  unfolding bit
+  copy-marker m = rw (ne-eqb (bit (b ∷ []) 0) 1 (omega arith))
+
+  pub copy-value : b < 256 → (b / 128 ≡ 0 → ⊥) → answer 0 (b % 128 ∷ []) ≡ copyInfoOf (b ∷ [])
+  unfolding bit
+  copy-value l m = rw (eq-eqb (bit (b ∷ []) 0) 1 (omega arith), in-byte (b ∷ []) 0 1 7 0 refl, div-one)
+
+-- the places of a flag byte, by the entries
+module _ (f : ℕ) (h : f < 256) where
+  pub placed : (e r t i s x p : ℕ) → e ≡ fieldsEnd (flagByte (f / 64 * 64)) → r ≡ fieldsEnd (flagByte (f / 32 * 32)) → t ≡ fieldsEnd (flagByte (f / 16 * 16))
+      → i ≡ fieldsEnd (flagByte (f / 8 * 8)) → s ≡ fieldsEnd (flagByte (f / 4 * 4)) → x ≡ fieldsEnd (flagByte f)
+      → answer 0 (e ∷ r ∷ t ∷ i ∷ s ∷ x ∷ p ∷ []) ≡ answer 0 (placesOf (flagByte f) ++ p ∷ [])
+  unfolding placesOf
+  placed e r t i s x p a b d g k l =
+      let c : List ℕ = flagByte f in
+      rw (a, b, d, g, k, l, times-end c f refl h, escr-end c f refl h, rate-end c f refl h, trick-end c f refl h, copy-end c f refl h)
+
+  -- flags that are left where later ones are cleared
+  pub left-small : (d : ℕ) → f / d * d < 2 ^ 8
+  left-small d = lt-of-le-of-lt (div-mul-le-self f d) h
 
 -- a timestamp at a place, by what its reader answers: the bytes from there on are as the code takes them
 module _ (at : ℕ) (xs : List ℕ) (r : TimestampRead) (g : given r ≡ readStamp (take (length xs - at) (drop at xs))) where
@@ -583,11 +703,11 @@ module _ (b : ℕ) (l : b < 256) where
       simp (control-is (b / 32) refl, ne-eqb (b / 32) 0 p, ne-eqb (b / 32) 1 q, ne-eqb (b / 32) 2 x, ne-eqb (b / 32) 3 y, ne-eqb (b / 32) 4 z)
 
 -- What `search` is given. For what a call, an index or a sum asks, of all functions and of those of one field:
-pub ruleset contents-laws = (accepted, three-there, first-there, second-there, third-there, byte-wide, sum-wide, end-in, needs)
+pub ruleset contents-laws = (accepted, three-there, first-there, second-there, third-there, byte-wide, sum-wide, left-fits, end-in, needs)
 
 pub ruleset times-laws = (pts-there, dts-there, first-of-two, contents-laws)
 
-pub ruleset escr-laws = (escr-start, escr-room, contents-laws)
+pub ruleset escr-laws = (escr-first, escr-later, contents-laws)
 
 pub ruleset rate-laws = (rate-first, rate-later, contents-laws)
 
@@ -604,19 +724,42 @@ pub ruleset made-answers = (rate-in, rate-out, bytes-in, bytes-out)
 
 pub ruleset flag-answers = (first-flags, flag-at, last-flag)
 
-pub ruleset end-answers = (end-at, end-small, times-none, times-two, times-other, escr-skipped, escr-passed, rate-skipped, rate-passed, trick-skipped, trick-passed, copy-skipped, copy-passed, crc-skipped, crc-passed, arith)
+pub ruleset end-answers = (
+  end-at,
+  end-small,
+  times-absent-end,
+  times-invalid-end,
+  times-one,
+  times-other,
+  escr-passed,
+  escr-near,
+  rate-passed,
+  rate-near,
+  trick-passed,
+  trick-near,
+  copy-passed,
+  copy-near,
+  crc-passed,
+  crc-near,
+  crc-known,
+  arith,
+)
 
-pub ruleset head-answers = (short, bad-check, past-buffer, past-header, all-on)
+pub ruleset head-answers = (short, bad-check, past-buffer, past-header, roomy, all-on)
 
 pub ruleset fixed-answers = (accepted, refused, priority-done, scrambling-done, flags-done, length-done, bit-zero, bit-one, last-zero, last-one)
 
 pub ruleset times-answers = (accepted, refused-times, times-absent, times-invalid, pts-alone, pts-and-dts)
 
-pub ruleset field-answers = (accepted, refused-field, off, escr-done, rate-done, trick-done, raw-done, copy-marker, copy-done, crc-done, extension-done)
+pub ruleset field-answers = (accepted, refused-field, off, escr-done, rate-done, trick-done, raw-done, copy-done, crc-done, extension-done)
 
-pub ruleset part-answers = (accepted, refused, payload-done, no-part, extension-part, payload-part)
+pub ruleset part-answers = (accepted, refused, places-done, payload-done, no-part, extension-part, payload-part)
 
 pub ruleset clock-answers = (clock-done, clock-out)
+
+pub ruleset place-laws = (placed, left-small, needs)
+
+pub ruleset byte-answers = (base-bytes, extension-bytes, rate-bytes, crc-bytes, copy-marker, copy-value)
 
 pub ruleset stamp-answers = (stamp-done, stamp-marker, stamp-short, stamp-prefix)
 

@@ -39,10 +39,12 @@ use Rattle.contents.specs.declared.FieldRead.{FieldRead}
 use Rattle.contents.specs.declared.CopyInfoRead.{CopyInfoRead}
 use Rattle.contents.specs.declared.CrcRead.{CrcRead}
 use Rattle.contents.specs.declared.PartRead.{PartRead}
+use Rattle.contents.specs.declared.PlacesRead.{PlacesRead}
+use Rattle.contents.specs.declared.ClockParts.{ClockParts}
 use Rattle.contents.specs.Given.{refusal, givenContents, givenByte, givenAlignment, statusBit, standardCopyright, givenCopyright}
 use Rattle.contents.specs.Given.{givenOriginal, givenStamp, givenPtsDts, givenEscr}
 use Rattle.contents.specs.Given.{givenRateMade, givenRateNumber, givenEsRate, truncation, trickValues, givenTrick, givenField}
-use Rattle.contents.specs.Given.{givenCopyInfo, givenCrc, givenPart}
+use Rattle.contents.specs.Given.{givenCopyInfo, givenCrc, givenPart, givenPlaces}
 use Rattle.contents.specs.Contents.{escrBit, esRateBit, trickBit, copyInfoBit, crcBit, escrAt, esRateAt, trickAt, copyInfoAt, crcAt}
 use Rattle.contents.specs.Contents.{flagged, readContents, escrBase, escrExtension, escrAnswer, readEscr, rateOf, readEsRate}
 use Rattle.contents.specs.Contents.{copyInfoOf, readCopyInfo, readCrc}
@@ -286,6 +288,25 @@ partBack-given (PartRead.Refused r) = back-refused partBack PartRead.Refused r
 
 pub one-part : (s : Answer) (a b : PartRead) → givenPart a ≡ s → givenPart b ≡ s → a ≡ b
 one-part = one-answer givenPart (back partBack PartRead.Refused) partBack-given
+
+abbrev placesBack : Answer → PlacesRead
+placesBack s =
+    let v : ℕ → ℕ = λ i. getD (s .values) i 0 in
+    PlacesRead.Done (v 0) (v 1) (v 2) (v 3) (v 4) (v 5) (v 6)
+
+placesBack-given : (r : PlacesRead) → back placesBack PlacesRead.Refused (givenPlaces r) ≡ r
+placesBack-given (PlacesRead.Done e r t i s x p) = refl
+placesBack-given (PlacesRead.Refused r) = back-refused placesBack PlacesRead.Refused r
+
+pub one-places : (s : Answer) (a b : PlacesRead) → givenPlaces a ≡ s → givenPlaces b ≡ s → a ≡ b
+one-places = one-answer givenPlaces (back placesBack PlacesRead.Refused) placesBack-given
+
+-- and of what is read off a field's own bytes
+pub one-mode : (vs : List ℕ) (a b : DsmTrickMode) → trickValues a ≡ vs → trickValues b ≡ vs → a ≡ b
+one-mode vs a b p q = sym (modeBack-values a) ∙ (ap modeBack (p ∙ sym q) ∙ modeBack-values b)
+
+pub one-clock-parts : (n m : ℕ) (a b : ClockParts) → (a .base ≡ n) × (a .extension ≡ m) → (b .base ≡ n) × (b .extension ≡ m) → a ≡ b
+one-clock-parts n m a b p q = ap₂ (λ (x y : ℕ). record { base = x; extension = y }) (p .0 ∙ sym (q .0)) (p .1 ∙ sym (q .1))
 
 -- ---- the original's sense and the standard's
 

@@ -29,6 +29,7 @@ use Rattle.contents.specs.declared.FieldRead.{FieldRead}
 use Rattle.contents.specs.declared.CopyInfoRead.{CopyInfoRead}
 use Rattle.contents.specs.declared.CrcRead.{CrcRead}
 use Rattle.contents.specs.declared.PartRead.{PartRead}
+use Rattle.contents.specs.declared.PlacesRead.{PlacesRead}
 
 -- 5 to 8: the contents are refused
 abbrev pub refusal : Refusal → Answer
@@ -147,3 +148,7 @@ abbrev pub givenPart : PartRead → Answer
 givenPart (PartRead.Done p n) = answer done (p ∷ n ∷ [])
 givenPart PartRead.FieldNotPresent = answer fieldNotPresent []
 givenPart (PartRead.Refused r) = refusal r
+
+abbrev pub givenPlaces : PlacesRead → Answer
+givenPlaces (PlacesRead.Done e r t c k x p) = answer done (e ∷ r ∷ t ∷ c ∷ k ∷ x ∷ p ∷ [])
+givenPlaces (PlacesRead.Refused r) = refusal r

@@ -40,10 +40,11 @@ readTrick c = flagged trickBit c (answer done (trickOf (drop (trickAt c) c)))
 abbrev pub readRawTrick : List ℕ → Answer
 readRawTrick c = flagged trickBit c (answer done (field (drop (trickAt c) c) 0 8 ∷ []))
 
--- ---- cited by private functions alone
-
+-- by the byte alone
 abbrev pub trickByte : ℕ → List ℕ
 trickByte b = trickOf (b ∷ [])
+
+-- ---- cited by private functions alone
 
 abbrev pub truncationBits : ℕ → ℕ
 truncationBits b = field (b ∷ []) 6 2

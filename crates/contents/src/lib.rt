@@ -1,22 +1,24 @@
 // What follows the head of a PES packet that carries parsed contents (`PesParsedContents` of the original's pes.rs), read off a
 // slice that begins after the head's six bytes. Every reader refuses contents that `from_bytes` refuses, and by the same number.
 ghost use mathlib.Core.Path.{_≡_};
+ghost use mathlib.Core.List.{[], _∷_, _++_};
 ghost use Prim.Native.Nat.{_+_, _≤_};
 ghost use lib.ListN.{length, drop};
-ghost use Rattle.bits.specs.Answer.{partOf};
+ghost use Rattle.bits.specs.Answer.{answer, partOf};
+ghost use Rattle.bits.specs.Numbers.{done};
 ghost use Rattle.bits.specs.Field.{field, flag};
 ghost use Rattle.timestamp.specs.Stamp.{readStamp};
 ghost use Rattle.contents.specs.Contents.{scramblingBit, pesPriorityBit, alignmentBit, copyrightBit, originalBit, flagsBit, dataLengthBit};
 ghost use Rattle.contents.specs.Contents.{ptsBit, escrBit, esRateBit, trickBit, copyInfoBit, crcBit, pesExtensionBit};
 ghost use Rattle.contents.specs.Contents.{readContents, readFixed, readPtsDts, readEscr, readEsRate, readCopyInfo, readCrc};
 ghost use Rattle.contents.specs.Contents.{readPesExtension, readParsedPayload};
-ghost use Rattle.contents.specs.Contents.{escrAnswer, escrAt, esRateAt, trickAt, copyInfoAt, crcAt, fieldsEnd, payloadAt, makeRate};
-ghost use Rattle.contents.specs.Contents.{rateBytes};
+ghost use Rattle.contents.specs.Contents.{flagByte, FieldEnds, escrAt, esRateAt, trickAt, copyInfoAt, crcAt, fieldsEnd, payloadAt, placesOf, readPlaces};
+ghost use Rattle.contents.specs.Contents.{escrBase, escrExtension, escrAnswer, rateOf, copyInfoOf, makeRate, rateBytes};
 ghost use Rattle.contents.specs.Trick.{readTrick, readRawTrick, trickByte, truncationBits};
 ghost use Rattle.contents.specs.Given.{givenContents, givenByte, givenAlignment, givenCopyright, givenOriginal, givenStamp};
 ghost use Rattle.contents.specs.Given.{givenPtsDts, givenEscr};
 ghost use Rattle.contents.specs.Given.{givenRateMade, givenRateNumber, givenEsRate, truncation, trickValues, givenTrick, givenField};
-ghost use Rattle.contents.specs.Given.{givenCopyInfo, givenCrc, givenPart};
+ghost use Rattle.contents.specs.Given.{givenCopyInfo, givenCrc, givenPart, givenPlaces};
 use bits::part;
 use bits::wide;
 use control::ClockMade;
@@ -37,20 +39,29 @@ pub enum ContentsRead {
     Refused(Refusal),
 }
 
-// The sizes of the fields, in bytes.
 const FIXED_HEADER_SIZE: usize = 3;
 
 const TIMESTAMP_SIZE: usize = 5;
 
-const ESCR_SIZE: usize = 6;
-
-const ES_RATE_SIZE: usize = 3;
-
-const DSM_TRICK_MODE_SIZE: usize = 1;
-
-const ADDITIONAL_COPY_INFO_SIZE: usize = 1;
-
-const PREVIOUS_PES_PACKET_CRC_SIZE: usize = 2;
+// Where the flagged fields end, for each flag byte: after the 3 bytes that are always there and the fields that it announces. 01 announces
+// no time, and the extension counts for nothing. A line for the upper four flags, from 0 to F; in it, a number for the lower four.
+const FIELD_ENDS: [u8; 256] = *b"\
+    \x03\x03\x05\x05\x04\x04\x06\x06\x04\x04\x06\x06\x05\x05\x07\x07\
+    \x06\x06\x08\x08\x07\x07\x09\x09\x07\x07\x09\x09\x08\x08\x0A\x0A\
+    \x09\x09\x0B\x0B\x0A\x0A\x0C\x0C\x0A\x0A\x0C\x0C\x0B\x0B\x0D\x0D\
+    \x0C\x0C\x0E\x0E\x0D\x0D\x0F\x0F\x0D\x0D\x0F\x0F\x0E\x0E\x10\x10\
+    \x03\x03\x05\x05\x04\x04\x06\x06\x04\x04\x06\x06\x05\x05\x07\x07\
+    \x06\x06\x08\x08\x07\x07\x09\x09\x07\x07\x09\x09\x08\x08\x0A\x0A\
+    \x09\x09\x0B\x0B\x0A\x0A\x0C\x0C\x0A\x0A\x0C\x0C\x0B\x0B\x0D\x0D\
+    \x0C\x0C\x0E\x0E\x0D\x0D\x0F\x0F\x0D\x0D\x0F\x0F\x0E\x0E\x10\x10\
+    \x08\x08\x0A\x0A\x09\x09\x0B\x0B\x09\x09\x0B\x0B\x0A\x0A\x0C\x0C\
+    \x0B\x0B\x0D\x0D\x0C\x0C\x0E\x0E\x0C\x0C\x0E\x0E\x0D\x0D\x0F\x0F\
+    \x0E\x0E\x10\x10\x0F\x0F\x11\x11\x0F\x0F\x11\x11\x10\x10\x12\x12\
+    \x11\x11\x13\x13\x12\x12\x14\x14\x12\x12\x14\x14\x13\x13\x15\x15\
+    \x0D\x0D\x0F\x0F\x0E\x0E\x10\x10\x0E\x0E\x10\x10\x0F\x0F\x11\x11\
+    \x10\x10\x12\x12\x11\x11\x13\x13\x11\x11\x13\x13\x12\x12\x14\x14\
+    \x13\x13\x15\x15\x14\x14\x16\x16\x14\x14\x16\x16\x15\x15\x17\x17\
+    \x16\x16\x18\x18\x17\x17\x19\x19\x17\x17\x19\x19\x18\x18\x1A\x1A";
 
 const BIT_13: u64 = 1 << 13;
 
@@ -71,6 +82,10 @@ pub fn from_bytes(buf: &[u8]) -> ContentsRead
     let end = header_end(buf);
     if buf.len() < end {
         return ContentsRead::Refused(Refusal::HeaderPastBuffer);
+    }
+    // room for every field there is
+    if end >= FIELD_ENDS[0xFF] as usize {
+        return ContentsRead::Done;
     }
     if end < pes_crc_end(buf) {
         return ContentsRead::Refused(Refusal::FieldsPastHeader);
@@ -135,74 +150,72 @@ fn header_end(buf: &[u8]) -> usize
     FIXED_HEADER_SIZE + buf[2] as usize
 }
 
+// The entry of a flag byte.
+fn entry(ends: &[u8; 256], flags: u8) -> usize
+    requires { ⌜ FieldEnds (now ends) ⌝ }
+    ensures { λ r. ⌜ r ≡ fieldsEnd (flagByte flags) ⌝ }
+{
+    ends[flags as usize] as usize
+}
+
+// Each function that looks a flag byte up lays the table on the stack first, so what is usual goes its own way: docs/PERFORMANCE.md.
+fn field_end(flags: u8) -> usize
+    ensures { λ r. ⌜ r ≡ fieldsEnd (flagByte flags) ⌝ }
+{
+    entry(&FIELD_ENDS, flags)
+}
+
+// Where a field ends, and the next begins: the entry of the flags with those of all later fields cleared.
 fn pts_dts_end(buf: &[u8]) -> usize
     requires { ⌜ 3 ≤ length (now buf) ⌝ }
     ensures { λ r. ⌜ (r ≡ escrAt (now (buf .entry))) × (r ≤ 13) ⌝ }
 {
-    let flags = pts_dts_flags(buf);
-    if flags < 2 {
-        return FIXED_HEADER_SIZE;
+    match pts_dts_flags(buf) {
+        0 => FIELD_ENDS[0x00] as usize,
+        1 => FIELD_ENDS[0x40] as usize,
+        2 => FIELD_ENDS[0x80] as usize,
+        _ => FIELD_ENDS[0xC0] as usize,
     }
-    if flags == 3 {
-        return FIXED_HEADER_SIZE + TIMESTAMP_SIZE * 2;
-    }
-    FIXED_HEADER_SIZE + TIMESTAMP_SIZE
 }
 
 fn escr_end(buf: &[u8]) -> usize
     requires { ⌜ 3 ≤ length (now buf) ⌝ }
     ensures { λ r. ⌜ (r ≡ esRateAt (now (buf .entry))) × (r ≤ 19) ⌝ }
 {
-    let at = pts_dts_end(buf);
-    if escr_flag(buf) {
-        return at + ESCR_SIZE;
-    }
-    at
+    field_end(buf[1] / 32 * 32)
 }
 
 fn es_rate_end(buf: &[u8]) -> usize
     requires { ⌜ 3 ≤ length (now buf) ⌝ }
     ensures { λ r. ⌜ (r ≡ trickAt (now (buf .entry))) × (r ≤ 22) ⌝ }
 {
-    let at = escr_end(buf);
-    if esrate_flag(buf) {
-        return at + ES_RATE_SIZE;
-    }
-    at
+    field_end(buf[1] / 16 * 16)
 }
 
 fn dsm_trick_mode_end(buf: &[u8]) -> usize
     requires { ⌜ 3 ≤ length (now buf) ⌝ }
     ensures { λ r. ⌜ (r ≡ copyInfoAt (now (buf .entry))) × (r ≤ 23) ⌝ }
 {
-    let at = es_rate_end(buf);
-    if dsm_trick_mode_flag(buf) {
-        return at + DSM_TRICK_MODE_SIZE;
-    }
-    at
+    field_end(buf[1] / 8 * 8)
 }
 
 fn additional_copy_info_end(buf: &[u8]) -> usize
     requires { ⌜ 3 ≤ length (now buf) ⌝ }
     ensures { λ r. ⌜ (r ≡ crcAt (now (buf .entry))) × (r ≤ 24) ⌝ }
 {
-    let at = dsm_trick_mode_end(buf);
-    if additional_copy_info_flag(buf) {
-        return at + ADDITIONAL_COPY_INFO_SIZE;
-    }
-    at
+    field_end(buf[1] / 4 * 4)
 }
 
-// Where the flagged fields end.
+// Where the flagged fields end. Nearly every header of a broadcast announces a PTS, or a PTS and a DTS, and nothing else.
 fn pes_crc_end(buf: &[u8]) -> usize
     requires { ⌜ 3 ≤ length (now buf) ⌝ }
     ensures { λ r. ⌜ (r ≡ fieldsEnd (now (buf .entry))) × (r ≤ 26) ⌝ }
 {
-    let at = additional_copy_info_end(buf);
-    if pes_crc_flag(buf) {
-        return at + PREVIOUS_PES_PACKET_CRC_SIZE;
+    match buf[1] {
+        0x80 => FIELD_ENDS[0x80] as usize,
+        0xC0 => FIELD_ENDS[0xC0] as usize,
+        flags => field_end(flags),
     }
-    at
 }
 
 // A number that is always there.
@@ -391,31 +404,54 @@ pub fn escr(buf: &[u8]) -> EscrRead
         ContentsRead::Done => {
             if escr_flag(buf) {
                 let at = pts_dts_end(buf);
-                return escr_of(&buf[at..]);
+                return escr_of(
+                    buf[at],
+                    buf[at + 1],
+                    buf[at + 2],
+                    buf[at + 3],
+                    buf[at + 4],
+                    buf[at + 5],
+                );
             }
             EscrRead::FieldNotPresent
         }
     }
 }
 
-// The clock reference in the first 6 bytes; its markers are not looked at.
-fn escr_of(s: &[u8]) -> EscrRead
-    requires { ⌜ 6 ≤ length (now s) ⌝ }
-    ensures { λ r. ⌜ givenEscr r ≡ escrAnswer (now (s .entry)) ⌝ }
+// The clock reference in the six bytes of an ESCR. 33 and 9 bits are always one.
+fn escr_of(a0: u8, a1: u8, a2: u8, a3: u8, a4: u8, a5: u8) -> EscrRead
+    ensures { λ r. ⌜ givenEscr r ≡ escrAnswer (a0 ∷ a1 ∷ a2 ∷ a3 ∷ a4 ∷ a5 ∷ []) ⌝ }
 {
-    let b0 = wide(s[0]);
-    let b1 = wide(s[1]);
-    let b2 = wide(s[2]);
-    let b3 = wide(s[3]);
-    let b4 = wide(s[4]);
-    let b5 = wide(s[5]);
+    let parts = escr_parts(a0, a1, a2, a3, a4, a5);
+    match ClockRef::from_parts(parts.base, parts.extension) {
+        ClockMade::Done(c) => EscrRead::Done(c),
+        ClockMade::OutOfRange => EscrRead::FieldNotPresent,
+    }
+}
+
+// The two numbers of a clock reference.
+pub struct ClockParts {
+    pub base: u64,
+    pub extension: u16,
+}
+
+// The two numbers in the six bytes of an ESCR; its markers are not looked at.
+pub fn escr_parts(a0: u8, a1: u8, a2: u8, a3: u8, a4: u8, a5: u8) -> ClockParts
+    ensures { λ r. ⌜ (r .base ≡ escrBase (a0 ∷ a1 ∷ a2 ∷ a3 ∷ a4 ∷ a5 ∷ [])) × (r .extension ≡ escrExtension (a0 ∷ a1 ∷ a2 ∷ a3 ∷ a4 ∷ a5 ∷ [])) ⌝ }
+{
+    let b0 = wide(a0);
+    let b1 = wide(a1);
+    let b2 = wide(a2);
+    let b3 = wide(a3);
+    let b4 = wide(a4);
+    let b5 = wide(a5);
     let high = b0 / 8 % 8;
     let middle = b0 % 4 * BIT_13 + b1 * 32 + b2 / 8;
     let low = b2 % 4 * BIT_13 + b3 * 32 + b4 / 8;
     let extension = (b4 % 4 * 128 + b5 / 2) as u16;
-    match ClockRef::from_parts(high * BIT_30 + middle * BIT_15 + low, extension) {
-        ClockMade::Done(c) => EscrRead::Done(c),
-        ClockMade::OutOfRange => EscrRead::FieldNotPresent,
+    ClockParts {
+        base: high * BIT_30 + middle * BIT_15 + low,
+        extension,
     }
 }
 
@@ -477,15 +513,21 @@ pub fn es_rate(buf: &[u8]) -> EsRateRead
         ContentsRead::Done => {
             if esrate_flag(buf) {
                 let at = escr_end(buf);
-                let b0 = wide(buf[at]);
-                let b1 = wide(buf[at + 1]);
-                let b2 = wide(buf[at + 2]);
-                let rate = (b0 % 128 * BIT_15 + b1 * 128 + b2 / 2) as u32;
-                return EsRateRead::Done(EsRate(rate));
+                return EsRateRead::Done(EsRate(rate_of(buf[at], buf[at + 1], buf[at + 2])));
             }
             EsRateRead::FieldNotPresent
         }
     }
+}
+
+// The rate in the three bytes of an ES_rate; its markers are not looked at.
+pub fn rate_of(a0: u8, a1: u8, a2: u8) -> u32
+    ensures { λ r. ⌜ r ≡ rateOf (a0 ∷ a1 ∷ a2 ∷ []) ⌝ }
+{
+    let b0 = wide(a0);
+    let b1 = wide(a1);
+    let b2 = wide(a2);
+    (b0 % 128 * BIT_15 + b1 * 128 + b2 / 2) as u32
 }
 
 pub enum FrequencyTruncationCoefficientSelection {
@@ -542,7 +584,8 @@ pub fn dsm_trick_mode(buf: &[u8]) -> TrickRead
     }
 }
 
-fn trick_of(byte: u8) -> DsmTrickMode
+// The trick mode in its byte.
+pub fn trick_of(byte: u8) -> DsmTrickMode
     ensures { λ r. ⌜ trickValues r ≡ trickByte byte ⌝ }
 {
     let control = byte / 32;
@@ -618,15 +661,21 @@ pub fn additional_copy_info(buf: &[u8]) -> CopyInfoRead
         ContentsRead::Done => {
             if additional_copy_info_flag(buf) {
                 let at = dsm_trick_mode_end(buf);
-                let byte = buf[at];
-                if byte / 128 == 0 {
-                    return CopyInfoRead::MarkerBitNotSet { bit_number: 0 };
-                }
-                return CopyInfoRead::Done(byte % 128);
+                return copy_info_of(buf[at]);
             }
             CopyInfoRead::FieldNotPresent
         }
     }
+}
+
+// The additional copy info in its byte, or that its marker is clear.
+fn copy_info_of(byte: u8) -> CopyInfoRead
+    ensures { λ r. ⌜ givenCopyInfo r ≡ copyInfoOf (byte ∷ []) ⌝ }
+{
+    if byte / 128 == 0 {
+        return CopyInfoRead::MarkerBitNotSet { bit_number: 0 };
+    }
+    CopyInfoRead::Done(byte % 128)
 }
 
 pub enum CrcRead {
@@ -644,13 +693,18 @@ pub fn previous_pes_packet_crc(buf: &[u8]) -> CrcRead
         ContentsRead::Done => {
             if pes_crc_flag(buf) {
                 let at = additional_copy_info_end(buf);
-                let high = wide(buf[at]);
-                let low = wide(buf[at + 1]);
-                return CrcRead::Done((high * 256 + low) as u16);
+                return CrcRead::Done(crc_of(buf[at], buf[at + 1]));
             }
             CrcRead::FieldNotPresent
         }
     }
+}
+
+// The checksum in its two bytes.
+pub fn crc_of(a0: u8, a1: u8) -> u16
+    ensures { λ r. ⌜ r ≡ field (a0 ∷ a1 ∷ []) 0 16 ⌝ }
+{
+    (wide(a0) * 256 + wide(a1)) as u16
 }
 
 // Where a part of the contents lies.
@@ -714,4 +768,44 @@ pub fn payload(buf: &[u8]) -> &[u8]
         return &buf[0..0];
     };
     part(buf, place, length)
+}
+
+// Where each flagged field begins, or would; where an extension begins, after them; and where the payload begins.
+pub enum PlacesRead {
+    Done {
+        escr: usize,
+        es_rate: usize,
+        dsm_trick_mode: usize,
+        additional_copy_info: usize,
+        previous_pes_packet_crc: usize,
+        pes_extension: usize,
+        payload: usize,
+    },
+    Refused(Refusal),
+}
+
+// All places at once. Added: the original keeps them to itself.
+pub fn places(buf: &[u8]) -> PlacesRead
+    ensures { λ r. ⌜ givenPlaces r ≡ readPlaces (now (buf .entry)) ⌝ }
+{
+    match from_bytes(buf) {
+        ContentsRead::Refused(r) => PlacesRead::Refused(r),
+        ContentsRead::Done => placed(&FIELD_ENDS, buf[1], header_end(buf)),
+    }
+}
+
+// Six entries of one table, which is laid on the stack once.
+fn placed(ends: &[u8; 256], flags: u8, payload: usize) -> PlacesRead
+    requires { ⌜ FieldEnds (now ends) ⌝ }
+    ensures { λ r. ⌜ givenPlaces r ≡ answer done (placesOf (flagByte flags) ++ payload ∷ []) ⌝ }
+{
+    PlacesRead::Done {
+        escr: entry(ends, flags / 64 * 64),
+        es_rate: entry(ends, flags / 32 * 32),
+        dsm_trick_mode: entry(ends, flags / 16 * 16),
+        additional_copy_info: entry(ends, flags / 8 * 8),
+        previous_pes_packet_crc: entry(ends, flags / 4 * 4),
+        pes_extension: entry(ends, flags),
+        payload,
+    }
 }

@@ -45,7 +45,7 @@ use contents::StampRead;
 use contents::TrickRead;
 
 // A refusal leaves every number as it was lent.
-fn refused(r: Refusal) -> u32
+pub fn refused(r: Refusal) -> u32
     ensures { λ w. ⌜ Reports (refusal r) w [] [] ⌝ }
 {
     match r {
@@ -273,9 +273,9 @@ fn truncated(x: FrequencyTruncationCoefficientSelection) -> u64
 }
 
 // A kind, and up to three numbers given with it.
-struct Four(u64, u64, u64, u64);
+pub struct Four(pub u64, pub u64, pub u64, pub u64);
 
-fn trick(t: DsmTrickMode) -> Four
+pub fn trick(t: DsmTrickMode) -> Four
     ensures { λ r. ⌜ r .0 ∷ r .1 ∷ r .2 ∷ r .3 ∷ [] ≡ filled (0 ∷ 0 ∷ 0 ∷ 0 ∷ []) (trickValues t) ⌝ }
 {
     match t {
