@@ -84,6 +84,7 @@ def by_definition(promise, text):
 
 FUNCTION = re.compile(
     r'^(?:pub )?(?:extern "C" )?fn (?P<name>\w+)\([^)]*\).*\n'
+    r"(?:    requires .*\n(?:        .*\n)*)?"
     r"(?P<promise>(?:    ensures .*\n(?:        .*\n)*)?)"
     r"(?P<body>\{\n(?:.*\n)*?\})",
     re.M,

@@ -1,158 +1,226 @@
-// Parsed contents of a PES packet at one call.
+// Parsed contents of a PES packet at one call. The contents are judged once and the places of the fields looked up once; then each field is
+// read and its numbers are stored before the next is looked at, so that no number waits on the stack for the others.
 ghost use mathlib.Core.Path.{_≡_};
-ghost use mathlib.Core.List.{[], _∷_};
+ghost use mathlib.Core.List.{[], _∷_, _++_};
+ghost use Prim.Native.Nat.{_+_, _≤_};
+ghost use lib.ListN.{length, drop};
+ghost use lib.Seq.{sets};
 ghost use Rattle.bits.specs.Numbers.{done};
+ghost use Rattle.timestamp.specs.Stamp.{readStamp};
+ghost use Rattle.contents.specs.Contents.{inner, escrAt, esRateAt, trickAt, copyInfoAt, crcAt, fieldsEnd, payloadAt};
 ghost use Rattle.contents.specs.Contents.{readContents, readPtsDts, readEscr, readEsRate, readCopyInfo, readCrc};
 ghost use Rattle.contents.specs.Contents.{readPesExtension, readParsedPayload};
 ghost use Rattle.contents.specs.Trick.{readTrick, readRawTrick};
 ghost use Rattle.host.specs.Reports.{Reports};
 ghost use Rattle.host_whole.specs.Whole.{numbers, row, fixedFields, contentsFields};
+use bits::wide;
+use contents::PlacesRead;
 use host::numbers::DONE;
+use host::numbers::FIELD_NOT_PRESENT;
+use host::numbers::MARKER_BIT_NOT_SET;
+use host::numbers::PTS_DTS_FLAGS_INVALID;
 use host::numbers::Pair;
-use host::of_contents::cmv_pes_contents_additional_copy_info;
-use host::of_contents::cmv_pes_contents_copyright;
-use host::of_contents::cmv_pes_contents_data_alignment_indicator;
-use host::of_contents::cmv_pes_contents_dsm_trick_mode;
-use host::of_contents::cmv_pes_contents_es_rate;
-use host::of_contents::cmv_pes_contents_escr;
-use host::of_contents::cmv_pes_contents_flags;
-use host::of_contents::cmv_pes_contents_from_bytes;
-use host::of_contents::cmv_pes_contents_original_or_copy;
-use host::of_contents::cmv_pes_contents_payload;
-use host::of_contents::cmv_pes_contents_pes_extension;
-use host::of_contents::cmv_pes_contents_pes_header_data_len;
-use host::of_contents::cmv_pes_contents_pes_priority;
-use host::of_contents::cmv_pes_contents_pes_scrambling_control;
-use host::of_contents::cmv_pes_contents_previous_pes_packet_crc;
-use host::of_contents::cmv_pes_contents_pts_dts;
-use host::of_contents::cmv_pes_contents_raw_trick_mode;
+use host::of_contents::refused;
+use host::of_contents::trick;
+use timestamp::Timestamp;
+use timestamp::TimestampRead;
 
-// Rows, a word and the numbers of an entry; Pair is one of one number. Seven is no row.
-struct Three(u64, u64, u64);
-
-struct Five(u64, u64, u64, u64, u64);
-
-struct Six(u64, u64, u64, u64, u64, u64);
-
-struct Seven(u64, u64, u64, u64, u64, u64, u64);
-
-// What contents always have, where they are accepted.
-fn fixed(buf: &[u8]) -> Seven
-    ensures { λ r. ⌜ (readContents (now (buf .entry)) .number ≡ done
-        → r .0 ∷ r .1 ∷ r .2 ∷ r .3 ∷ r .4 ∷ r .5 ∷ r .6 ∷ [] ≡ fixedFields (now (buf .entry))) ⌝ }
+// What contents always have.
+fn fixed(buf: &[u8], fields: &mut [u64; 34])
+    requires { ⌜ readContents (now buf) .number ≡ done ⌝ }
+    ensures { λ _. ⌜ now (fields .exit) ≡ sets (now (fields .entry)) 0 (fixedFields (now (buf .entry))) ⌝ }
 {
-    let mut scrambling = 0;
-    let mut priority = 0;
-    let mut aligned = 0;
-    let mut copyright = 0;
-    let mut original = 0;
-    let mut flags = 0;
-    let mut length = 0;
-    cmv_pes_contents_pes_scrambling_control(buf, &mut scrambling);
-    cmv_pes_contents_pes_priority(buf, &mut priority);
-    cmv_pes_contents_data_alignment_indicator(buf, &mut aligned);
-    cmv_pes_contents_copyright(buf, &mut copyright);
-    cmv_pes_contents_original_or_copy(buf, &mut original);
-    cmv_pes_contents_flags(buf, &mut flags);
-    cmv_pes_contents_pes_header_data_len(buf, &mut length);
-    Seven(
-        scrambling,
-        priority,
-        aligned,
-        copyright,
-        original,
-        flags,
-        length,
-    )
+    let first = wide(buf[0]);
+    let flags = wide(buf[1]);
+    let length = wide(buf[2]);
+    fields[0] = first / 16 % 4;
+    fields[1] = first / 8 % 2;
+    fields[2] = first / 4 % 2;
+    fields[3] = first / 2 % 2;
+    fields[4] = first % 2;
+    fields[5] = flags;
+    fields[6] = length;
 }
 
-fn times(buf: &[u8]) -> Six
-    ensures { λ r. ⌜ r .0 ∷ r .1 ∷ r .2 ∷ r .3 ∷ r .4 ∷ r .5 ∷ [] ≡ row 5 (readPtsDts (now (buf .entry))) ⌝ }
+fn times(buf: &[u8], fields: &mut [u64; 34])
+    requires { ⌜ readContents (now buf) .number ≡ done ⌝ }
+    ensures { λ _. ⌜ now (fields .exit) ≡ sets (now (fields .entry)) 7 (row 5 (readPtsDts (now (buf .entry)))) ⌝ }
 {
-    let mut kind = 0;
-    let mut ptsnumber = 0;
-    let mut pts = 0;
-    let mut dtsnumber = 0;
-    let mut dts = 0;
-    let word = cmv_pes_contents_pts_dts(
-        buf,
-        &mut kind,
-        &mut ptsnumber,
-        &mut pts,
-        &mut dtsnumber,
-        &mut dts,
+    let flags = buf[1] / 64;
+    if flags == 0 {
+        fields[7] = FIELD_NOT_PRESENT as u64;
+        fields[8] = 0;
+        fields[9] = 0;
+        fields[10] = 0;
+        fields[11] = 0;
+        fields[12] = 0;
+        return;
+    }
+    if flags == 1 {
+        fields[7] = PTS_DTS_FLAGS_INVALID as u64;
+        fields[8] = 0;
+        fields[9] = 0;
+        fields[10] = 0;
+        fields[11] = 0;
+        fields[12] = 0;
+        return;
+    }
+    let pts = stamp(buf, 3);
+    if flags == 2 {
+        fields[7] = DONE as u64;
+        fields[8] = 1;
+        fields[9] = pts.0;
+        fields[10] = pts.1;
+        fields[11] = 0;
+        fields[12] = 0;
+        return;
+    }
+    fields[7] = DONE as u64;
+    fields[8] = 2;
+    fields[9] = pts.0;
+    fields[10] = pts.1;
+    let dts = stamp(buf, 8);
+    fields[11] = dts.0;
+    fields[12] = dts.1;
+}
+
+// The timestamp at a place, whose prefix is not looked at: its number, and its value or bit.
+fn stamp(buf: &[u8], at: usize) -> Pair
+    requires { ⌜ at + 5 ≤ length (now buf) ⌝ }
+    ensures { λ r. ⌜ r .0 ∷ r .1 ∷ [] ≡ inner (readStamp (drop at (now (buf .entry)))) ⌝ }
+{
+    match Timestamp::from_bytes(&buf[at..]) {
+        TimestampRead::Done(t) => Pair(DONE as u64, t.value()),
+        TimestampRead::MarkerBitNotSet { bit_number } => Pair(
+            MARKER_BIT_NOT_SET as u64,
+            bit_number as u64,
+        ),
+        TimestampRead::WrongLength => Pair(MARKER_BIT_NOT_SET as u64, 0),
+        TimestampRead::IncorrectPrefixBits {
+            expected: _,
+            actual: _,
+        } => { Pair(MARKER_BIT_NOT_SET as u64, 0) }
+    }
+}
+
+fn clock(buf: &[u8], at: usize, fields: &mut [u64; 34])
+    requires { ⌜ (readContents (now buf) .number ≡ done) × (at ≡ escrAt (now buf)) ⌝ }
+    ensures { λ _. ⌜ now (fields .exit) ≡ sets (now (fields .entry)) 13 (row 2 (readEscr (now (buf .entry)))) ⌝ }
+{
+    if buf[1] / 32 % 2 == 0 {
+        fields[13] = FIELD_NOT_PRESENT as u64;
+        fields[14] = 0;
+        fields[15] = 0;
+        return;
+    }
+    let parts = contents::escr_parts(
+        buf[at],
+        buf[at + 1],
+        buf[at + 2],
+        buf[at + 3],
+        buf[at + 4],
+        buf[at + 5],
     );
-    Six(word as u64, kind, ptsnumber, pts, dtsnumber, dts)
+    fields[13] = DONE as u64;
+    fields[14] = parts.base;
+    fields[15] = parts.extension as u64;
 }
 
-fn clock(buf: &[u8]) -> Three
-    ensures { λ r. ⌜ r .0 ∷ r .1 ∷ r .2 ∷ [] ≡ row 2 (readEscr (now (buf .entry))) ⌝ }
+fn rate(buf: &[u8], at: usize, fields: &mut [u64; 34])
+    requires { ⌜ (readContents (now buf) .number ≡ done) × (at ≡ esRateAt (now buf)) ⌝ }
+    ensures { λ _. ⌜ now (fields .exit) ≡ sets (now (fields .entry)) 16 (row 1 (readEsRate (now (buf .entry)))) ⌝ }
 {
-    let mut base = 0;
-    let mut extension = 0;
-    let word = cmv_pes_contents_escr(buf, &mut base, &mut extension);
-    Three(word as u64, base, extension)
+    if buf[1] / 16 % 2 == 0 {
+        fields[16] = FIELD_NOT_PRESENT as u64;
+        fields[17] = 0;
+        return;
+    }
+    let value = contents::rate_of(buf[at], buf[at + 1], buf[at + 2]);
+    fields[16] = DONE as u64;
+    fields[17] = value as u64;
 }
 
-fn rate(buf: &[u8]) -> Pair
-    ensures { λ r. ⌜ r .0 ∷ r .1 ∷ [] ≡ row 1 (readEsRate (now (buf .entry))) ⌝ }
+// The trick mode, and its byte as it stands.
+fn tricks(buf: &[u8], at: usize, fields: &mut [u64; 34])
+    requires { ⌜ (readContents (now buf) .number ≡ done) × (at ≡ trickAt (now buf)) ⌝ }
+    ensures { λ _. ⌜ now (fields .exit)
+        ≡ sets (now (fields .entry)) 18 (row 4 (readTrick (now (buf .entry))) ++ row 1 (readRawTrick (now (buf .entry)))) ⌝ }
 {
-    let mut value = 0;
-    let word = cmv_pes_contents_es_rate(buf, &mut value);
-    Pair(word as u64, value)
+    if buf[1] / 8 % 2 == 0 {
+        fields[18] = FIELD_NOT_PRESENT as u64;
+        fields[19] = 0;
+        fields[20] = 0;
+        fields[21] = 0;
+        fields[22] = 0;
+        fields[23] = FIELD_NOT_PRESENT as u64;
+        fields[24] = 0;
+        return;
+    }
+    let byte = buf[at];
+    let mode = trick(contents::trick_of(byte));
+    fields[18] = DONE as u64;
+    fields[19] = mode.0;
+    fields[20] = mode.1;
+    fields[21] = mode.2;
+    fields[22] = mode.3;
+    fields[23] = DONE as u64;
+    fields[24] = byte as u64;
 }
 
-fn trick(buf: &[u8]) -> Five
-    ensures { λ r. ⌜ r .0 ∷ r .1 ∷ r .2 ∷ r .3 ∷ r .4 ∷ [] ≡ row 4 (readTrick (now (buf .entry))) ⌝ }
+fn copy_info(buf: &[u8], at: usize, fields: &mut [u64; 34])
+    requires { ⌜ (readContents (now buf) .number ≡ done) × (at ≡ copyInfoAt (now buf)) ⌝ }
+    ensures { λ _. ⌜ now (fields .exit) ≡ sets (now (fields .entry)) 25 (row 1 (readCopyInfo (now (buf .entry)))) ⌝ }
 {
-    let mut kind = 0;
-    let mut first = 0;
-    let mut second = 0;
-    let mut third = 0;
-    let word = cmv_pes_contents_dsm_trick_mode(buf, &mut kind, &mut first, &mut second, &mut third);
-    Five(word as u64, kind, first, second, third)
+    if buf[1] / 4 % 2 == 0 {
+        fields[25] = FIELD_NOT_PRESENT as u64;
+        fields[26] = 0;
+        return;
+    }
+    let byte = buf[at];
+    if byte / 128 == 0 {
+        fields[25] = MARKER_BIT_NOT_SET as u64;
+        fields[26] = 0;
+        return;
+    }
+    fields[25] = DONE as u64;
+    fields[26] = (byte % 128) as u64;
 }
 
-fn raw_trick(buf: &[u8]) -> Pair
-    ensures { λ r. ⌜ r .0 ∷ r .1 ∷ [] ≡ row 1 (readRawTrick (now (buf .entry))) ⌝ }
+fn crc(buf: &[u8], at: usize, fields: &mut [u64; 34])
+    requires { ⌜ (readContents (now buf) .number ≡ done) × (at ≡ crcAt (now buf)) ⌝ }
+    ensures { λ _. ⌜ now (fields .exit) ≡ sets (now (fields .entry)) 27 (row 1 (readCrc (now (buf .entry)))) ⌝ }
 {
-    let mut value = 0;
-    let word = cmv_pes_contents_raw_trick_mode(buf, &mut value);
-    Pair(word as u64, value)
+    if buf[1] / 2 % 2 == 0 {
+        fields[27] = FIELD_NOT_PRESENT as u64;
+        fields[28] = 0;
+        return;
+    }
+    let value = contents::crc_of(buf[at], buf[at + 1]);
+    fields[27] = DONE as u64;
+    fields[28] = value as u64;
 }
 
-fn copy_info(buf: &[u8]) -> Pair
-    ensures { λ r. ⌜ r .0 ∷ r .1 ∷ [] ≡ row 1 (readCopyInfo (now (buf .entry))) ⌝ }
+fn extension(buf: &[u8], at: usize, end: usize, fields: &mut [u64; 34])
+    requires { ⌜ (readContents (now buf) .number ≡ done) × (at ≡ fieldsEnd (now buf)) × (end ≡ payloadAt (now buf)) ⌝ }
+    ensures { λ _. ⌜ now (fields .exit) ≡ sets (now (fields .entry)) 29 (row 2 (readPesExtension (now (buf .entry)))) ⌝ }
 {
-    let mut value = 0;
-    let word = cmv_pes_contents_additional_copy_info(buf, &mut value);
-    Pair(word as u64, value)
+    if buf[1] % 2 == 0 {
+        fields[29] = FIELD_NOT_PRESENT as u64;
+        fields[30] = 0;
+        fields[31] = 0;
+        return;
+    }
+    fields[29] = DONE as u64;
+    fields[30] = at as u64;
+    fields[31] = (end - at) as u64;
 }
 
-fn crc(buf: &[u8]) -> Pair
-    ensures { λ r. ⌜ r .0 ∷ r .1 ∷ [] ≡ row 1 (readCrc (now (buf .entry))) ⌝ }
+fn payload(buf: &[u8], end: usize, fields: &mut [u64; 34])
+    requires { ⌜ (readContents (now buf) .number ≡ done) × (end ≡ payloadAt (now buf)) ⌝ }
+    ensures { λ _. ⌜ now (fields .exit) ≡ sets (now (fields .entry)) 32 (numbers 2 (readParsedPayload (now (buf .entry)))) ⌝ }
 {
-    let mut value = 0;
-    let word = cmv_pes_contents_previous_pes_packet_crc(buf, &mut value);
-    Pair(word as u64, value)
-}
-
-fn extension(buf: &[u8]) -> Three
-    ensures { λ r. ⌜ r .0 ∷ r .1 ∷ r .2 ∷ [] ≡ row 2 (readPesExtension (now (buf .entry))) ⌝ }
-{
-    let mut place = 0;
-    let mut length = 0;
-    let word = cmv_pes_contents_pes_extension(buf, &mut place, &mut length);
-    Three(word as u64, place, length)
-}
-
-fn payload(buf: &[u8]) -> Pair
-    ensures { λ r. ⌜ r .0 ∷ r .1 ∷ [] ≡ numbers 2 (readParsedPayload (now (buf .entry))) ⌝ }
-{
-    let mut place = 0;
-    let mut length = 0;
-    cmv_pes_contents_payload(buf, &mut place, &mut length);
-    Pair(place, length)
+    fields[32] = end as u64;
+    fields[33] = (buf.len() - end) as u64;
 }
 
 // scrambling control, priority, alignment, copyright, original, the flags and the header data length; then the word and the numbers of each of
@@ -161,57 +229,29 @@ fn payload(buf: &[u8]) -> Pair
 pub extern "C" fn cmv_pes_contents_fields(buf: &[u8], fields: &mut [u64; 34]) -> u32
     ensures { λ w. ⌜ Reports (contentsFields (now (buf .entry))) w (now (fields .entry)) (now (fields .exit)) ⌝ }
 {
-    let word = cmv_pes_contents_from_bytes(buf);
-    if word != DONE {
-        return word;
+    match contents::places(buf) {
+        PlacesRead::Refused(r) => refused(r),
+        PlacesRead::Done {
+            escr,
+            es_rate,
+            dsm_trick_mode,
+            additional_copy_info,
+            previous_pes_packet_crc,
+            pes_extension,
+            payload: end,
+        } => {
+            // lent as a slice, the array tells its length to the prover
+            let _lent = &fields[..];
+            fixed(buf, fields);
+            times(buf, fields);
+            clock(buf, escr, fields);
+            rate(buf, es_rate, fields);
+            tricks(buf, dsm_trick_mode, fields);
+            copy_info(buf, additional_copy_info, fields);
+            crc(buf, previous_pes_packet_crc, fields);
+            extension(buf, pes_extension, end, fields);
+            payload(buf, end, fields);
+            DONE
+        }
     }
-    let f = fixed(buf);
-    let t = times(buf);
-    let k = clock(buf);
-    let e = rate(buf);
-    let d = trick(buf);
-    let w = raw_trick(buf);
-    let i = copy_info(buf);
-    let s = crc(buf);
-    let x = extension(buf);
-    let p = payload(buf);
-    // lent as a slice, the array tells its length to the prover
-    let _lent = &fields[..];
-    *fields = [
-        f.0,
-        f.1,
-        f.2,
-        f.3,
-        f.4,
-        f.5,
-        f.6,
-        t.0,
-        t.1,
-        t.2,
-        t.3,
-        t.4,
-        t.5,
-        k.0,
-        k.1,
-        k.2,
-        e.0,
-        e.1,
-        d.0,
-        d.1,
-        d.2,
-        d.3,
-        d.4,
-        w.0,
-        w.1,
-        i.0,
-        i.1,
-        s.0,
-        s.1,
-        x.0,
-        x.1,
-        x.2,
-        p.0,
-        p.1,
-    ];
-    DONE
 }

@@ -1,41 +1,29 @@
-use Rattle.host.proofs.Laws.{reports-done, reports-whole}
-use Rattle.host_whole.proofs.Laws.{whole-laws}
-use mathlib.Core.Path.{ap₂}
-use mathlib.Core.List.{_++_}
-use Rattle.host_whole.specs.Whole.{contentsFields}
+use Rattle.host_whole.proofs.Rows.{row-laws, all-parts}
 use Rattle.host_whole.proofs.of_contents.cmv_pes_contents_fields.Statement.{statement}
 use Rattle.host_whole.proofs.of_contents.cmv_pes_contents_fields.Tie as tie
 
--- the numbers of each call one after another, by paths: there are more facts than `search` looks at
+-- the places are told only of contents that are accepted
+fixed-requires : tie.Need-fixed-requires
+fixed-requires c κs = search row-laws
+
+-- what each part left, one after another, by paths: there are more facts than `search` looks at
 returns-2 : tie.Need-returns-2
-unfolding contentsFields
 returns-2 c =
-    let p = c .before .before .before in
-    let x = p .before in
-    let s = x .before in
-    let i = s .before in
-    let w = i .before in
-    let d = w .before in
-    let e = d .before in
-    let k = e .before in
-    let t = k .before in
-    let f = t .before in
-    let b = f .before .before .cmv-pes-contents-from-bytes .ensures in
-    reports-whole _ b (f .before .if1 .left)
-    (ap₂ _++_ (f .fixed .ensures (reports-done b (f .before .if1 .left)))
-    (ap₂ _++_ (t .times .ensures)
-    (ap₂ _++_ (k .clock .ensures)
-    (ap₂ _++_ (e .rate .ensures)
-    (ap₂ _++_ (d .trick .ensures)
-    (ap₂ _++_ (w .raw-trick .ensures)
-    (ap₂ _++_ (i .copy-info .ensures)
-    (ap₂ _++_ (s .crc .ensures)
-    (ap₂ _++_ (x .extension .ensures)
-    (p .payload .ensures))))))))))
-    (c .before .-lent2 .given .0)
+    let p8 = c .before .before in
+    let p7 = p8 .before .before in
+    let p6 = p7 .before .before in
+    let p5 = p6 .before .before in
+    let p4 = p5 .before .before in
+    let p3 = p4 .before .before in
+    let p2 = p3 .before .before in
+    let p1 = p2 .before .before in
+    let lent = p1 .before .before in
+    all-parts _ (fixed-requires (p1 .before) (p1 .fixed .lifetimes)) _ _ _ _ _ _ _ _ _ _ (lent .-lent2 .given .0) (p1 .fixed .ensures) (p2 .times .ensures) (p3 .clock .ensures) (p4 .rate .ensures) (p5 .tricks .ensures)
+    (p6 .copy-info .ensures) (p7 .crc .ensures) (p8 .extension .ensures) (c .payload .ensures)
 
 pub cmv-pes-contents-fields-spec : {M : Type 1} → statement M
-unfolding contentsFields
-cmv-pes-contents-fields-spec {M} = let answers = tie.spec {M = M} (λ c κs. search whole-laws) (λ c. search whole-laws) (λ c κs. search whole-laws) (λ c κs. search whole-laws)
-    (λ c κs. search whole-laws) (λ c κs. search whole-laws) (λ c κs. search whole-laws) (λ c κs. search whole-laws) (λ c κs. search whole-laws) (λ c κs. search whole-laws)
-    (λ c κs. search whole-laws) (λ c κs. search whole-laws) returns-2 in tie.close answers
+cmv-pes-contents-fields-spec {M} =
+    let answers = tie.spec {M = M} (λ c κs. search row-laws) (λ c. search row-laws) (λ c κs. search row-laws) (λ c. search row-laws) (λ c κs. search row-laws) (λ c κs. search row-laws)
+    (λ c κs. search row-laws) (λ c κs. search row-laws) (λ c κs. search row-laws) (λ c κs. search row-laws) (λ c κs. search row-laws) (λ c κs. search row-laws) (λ c κs. search row-laws)
+    (λ c. search row-laws) returns-2 in
+    tie.close answers
