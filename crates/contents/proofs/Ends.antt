@@ -1,6 +1,6 @@
 -- Where the flagged fields stand, by the flags' byte alone: the rule of a table of field ends, and what its entries are.
 -- Assumes nothing.
-use mathlib.Core.Path.{_≡_, refl, _∙_, ap}
+use mathlib.Core.Path.{_≡_, _∙_, ap}
 use mathlib.Core.Bool.{Bool, true, false}
 use mathlib.Core.List.{List}
 use Prim.Native.Nat.{ℕ, _+_, _*_, _/_, _^_, _≤_, _<_}
@@ -10,7 +10,7 @@ use lib.ListN.{getD}
 use lib.Dec.{T, eqb, eqb→eq}
 use Rattle.bits.specs.Answer.{pick}
 use Rattle.bits.specs.Field.{bit, flag}
-use Rattle.bits.proofs.Fields.{bit-below, Known}
+use Rattle.bits.proofs.Fields.{bit-below}
 use Rattle.bits.proofs.Ranges.{from, at}
 use Rattle.contents.specs.Contents.{flagByte, FieldEnds, timesSize, escrAt, esRateAt, trickAt, copyInfoAt, crcAt, fieldsEnd, ptsBit, dtsBit, escrBit, esRateBit}
 use Rattle.contents.specs.Contents.{trickBit, copyInfoBit, crcBit}

@@ -328,74 +328,68 @@ module _ (c : List ℕ) (q : PlacesRead) (e r t i s x p : ℕ) (d : q ≡ Places
   payload-place = place 6
 
 module _ (c : List ℕ) (z : readContents c .number ≡ 0) where
-  -- the row, as the definition has it, from each part on, and how long it is
+  -- the row, as the definition has it, from each part on
   abbrev from-32 : List ℕ
   from-32 = numbers 2 (readParsedPayload c)
-
-  length-32 : length from-32 ≡ 2
-  length-32 = outs-length (readParsedPayload c) (0 ∷ 0 ∷ [])
 
   abbrev from-29 : List ℕ
   from-29 = row 2 (readPesExtension c) ++ from-32
 
-  length-29 : length from-29 ≡ 5
-  length-29 = together (row 2 (readPesExtension c)) from-32 3 2 (row-length 2 (readPesExtension c) refl) length-32
-
   abbrev from-27 : List ℕ
   from-27 = row 1 (readCrc c) ++ from-29
-
-  length-27 : length from-27 ≡ 7
-  length-27 = together (row 1 (readCrc c)) from-29 2 5 (row-length 1 (readCrc c) refl) length-29
 
   abbrev from-25 : List ℕ
   from-25 = row 1 (readCopyInfo c) ++ from-27
 
-  length-25 : length from-25 ≡ 9
-  length-25 = together (row 1 (readCopyInfo c)) from-27 2 7 (row-length 1 (readCopyInfo c) refl) length-27
-
   abbrev from-23 : List ℕ
   from-23 = row 1 (readRawTrick c) ++ from-25
-
-  length-23 : length from-23 ≡ 11
-  length-23 = together (row 1 (readRawTrick c)) from-25 2 9 (row-length 1 (readRawTrick c) refl) length-25
 
   abbrev from-18 : List ℕ
   from-18 = row 4 (readTrick c) ++ from-23
 
-  length-18 : length from-18 ≡ 16
-  length-18 = together (row 4 (readTrick c)) from-23 5 11 (row-length 4 (readTrick c) refl) length-23
-
   abbrev from-16 : List ℕ
   from-16 = row 1 (readEsRate c) ++ from-18
-
-  length-16 : length from-16 ≡ 18
-  length-16 = together (row 1 (readEsRate c)) from-18 2 16 (row-length 1 (readEsRate c) refl) length-18
 
   abbrev from-13 : List ℕ
   from-13 = row 2 (readEscr c) ++ from-16
 
-  length-13 : length from-13 ≡ 21
-  length-13 = together (row 2 (readEscr c)) from-16 3 18 (row-length 2 (readEscr c) refl) length-16
-
   abbrev from-7 : List ℕ
   from-7 = row 5 (readPtsDts c) ++ from-13
-
-  length-7 : length from-7 ≡ 27
-  length-7 = together (row 5 (readPtsDts c)) from-13 6 21 (row-length 5 (readPtsDts c) refl) length-13
 
   abbrev from-0 : List ℕ
   from-0 = fixedFields c ++ from-7
 
-  length-0 : length from-0 ≡ 34
-  length-0 = together (fixedFields c) from-7 7 27 refl length-7
+  whole-length : length from-0 ≡ 34
+  whole-length =
+      omega (
+        arith,
+        length-append (row 2 (readPesExtension c)) from-32,
+        length-append (row 1 (readCrc c)) from-29,
+        length-append (row 1 (readCopyInfo c)) from-27,
+        length-append (row 1 (readRawTrick c)) from-25,
+        length-append (row 4 (readTrick c)) from-23,
+        length-append (row 1 (readEsRate c)) from-18,
+        length-append (row 2 (readEscr c)) from-16,
+        length-append (row 5 (readPtsDts c)) from-13,
+        length-append (fixedFields c) from-7,
+        row-length 2 (readPesExtension c) refl,
+        row-length 1 (readCrc c) refl,
+        row-length 1 (readCopyInfo c) refl,
+        row-length 1 (readRawTrick c) refl,
+        row-length 4 (readTrick c) refl,
+        row-length 1 (readEsRate c) refl,
+        row-length 2 (readEscr c) refl,
+        row-length 5 (readPtsDts c) refl,
+        outs-length (readParsedPayload c) (0 ∷ 0 ∷ []),
+      )
 
   report : (l m : List ℕ) → length l ≡ 34 → m ≡ sets l 0 from-0 → Reports (contentsFields c) 0 l m
   unfolding contentsFields
   report l m h n =
       let e = eq-eqb (readContents c .number) 0 z in
       let t : Reports (readContents c) 0 [] [] = reports (sym (simp e)) (sym (simp e)) in
-      let v : m ≡ from-0 = n ∙ all-set l from-0 (h ∙ sym length-0) in
-      reports-whole l t refl v (h ∙ sym (ap length v ∙ length-0))
+      let v : m ≡ from-0 = n ∙ all-set l from-0 (h ∙ sym whole-length) in
+      reports-whole l t refl v (h ∙ sym (ap length v ∙ whole-length))
 
   module _ (l m1 m2 m3 m4 m5 m6 m7 m8 m9 : List ℕ) (h : length l ≡ 34) (p1 : m1 ≡ sets l 0 (fixedFields c)) (p2 : m2 ≡ sets m1 7 (row 5 (readPtsDts c)))
       (p3 : m3 ≡ sets m2 13 (row 2 (readEscr c))) (p4 : m4 ≡ sets m3 16 (row 1 (readEsRate c)))
