@@ -370,13 +370,16 @@ pub bytes-out : (n : ℕ) → 2 ^ 22 ≤ n → answer 14 [] ≡ rateBytes n
 unfolding rateBytes
 bytes-out n h = limited-out n (2 ^ 22) _ h
 
+-- flags that are left where later ones are cleared
+pub left-small : (f d : ℕ) → f < 256 → f / d * d < 2 ^ 8
+left-small f d h = lt-of-le-of-lt (div-mul-le-self f d) h
+
 module _ (c : List ℕ) where
   pub sum-wide : (i : ℕ) → Known c → 3 + getD c i 0 < 2 ^ 64
   sum-wide i k = omega (arith, k i)
 
-  -- flags that are left where later ones are cleared
   pub left-fits : (i d : ℕ) → Known c → getD c i 0 / d * d < 2 ^ 8
-  left-fits i d k = lt-of-le-of-lt (div-mul-le-self (getD c i 0) d) (k i .fits)
+  left-fits i d k = left-small (getD c i 0) d (k i .fits)
 
   pub end-at : Known c → 3 + getD c 2 0 ≡ payloadAt c
   end-at k = payload-at c (k 2 .fits)
@@ -623,17 +626,13 @@ module _ (b : ℕ) where
 
 -- the places of a flag byte, by the entries
 module _ (f : ℕ) (h : f < 256) where
-  pub placed : (e r t i s x p : ℕ) → e ≡ fieldsEnd (flagByte (f / 64 * 64)) → r ≡ fieldsEnd (flagByte (f / 32 * 32)) → t ≡ fieldsEnd (flagByte (f / 16 * 16))
+  pub all-placed : (e r t i s x p : ℕ) → e ≡ fieldsEnd (flagByte (f / 64 * 64)) → r ≡ fieldsEnd (flagByte (f / 32 * 32)) → t ≡ fieldsEnd (flagByte (f / 16 * 16))
       → i ≡ fieldsEnd (flagByte (f / 8 * 8)) → s ≡ fieldsEnd (flagByte (f / 4 * 4)) → x ≡ fieldsEnd (flagByte f)
       → answer 0 (e ∷ r ∷ t ∷ i ∷ s ∷ x ∷ p ∷ []) ≡ answer 0 (placesOf (flagByte f) ++ p ∷ [])
   unfolding placesOf
-  placed e r t i s x p a b d g k l =
+  all-placed e r t i s x p a b d g k l =
       let c : List ℕ = flagByte f in
       rw (a, b, d, g, k, l, times-end c f refl h, escr-end c f refl h, rate-end c f refl h, trick-end c f refl h, copy-end c f refl h)
-
-  -- flags that are left where later ones are cleared
-  pub left-small : (d : ℕ) → f / d * d < 2 ^ 8
-  left-small d = lt-of-le-of-lt (div-mul-le-self f d) h
 
 -- a timestamp at a place, by what its reader answers: the bytes from there on are as the code takes them
 module _ (at : ℕ) (xs : List ℕ) (r : TimestampRead) (g : given r ≡ readStamp (take (length xs - at) (drop at xs))) where
@@ -757,7 +756,7 @@ pub ruleset part-answers = (accepted, refused, places-done, payload-done, no-par
 
 pub ruleset clock-answers = (clock-done, clock-out)
 
-pub ruleset place-laws = (placed, left-small, needs)
+pub ruleset place-laws = (all-placed, left-small, needs)
 
 pub ruleset byte-answers = (base-bytes, extension-bytes, rate-bytes, crc-bytes, copy-marker, copy-value)
 

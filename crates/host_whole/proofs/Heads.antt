@@ -11,12 +11,13 @@ use lib.ListN.{length, getD}
 use borrow.Author.Tests.{le-leb, lt-leb, ne-eqb}
 use borrow.Author.Needs.{needs}
 use types.Run.{OneOf}
-use Rattle.bits.specs.Answer.{answer, truth}
+use Rattle.bits.specs.Answer.{Answer, answer, truth}
 use Rattle.bits.proofs.Fields.{byte-field, Known}
 use Rattle.bits.proofs.Ranges.{agree, from, same}
-use Rattle.pes.specs.Stream.{idValues, parsedId}
+use Rattle.pes.specs.Stream.{idValues, readId, parsedId}
 use Rattle.pes.specs.Head.{readHead, readStreamId, readContentsPart, idOf}
 use Rattle.pes.proofs.Laws.{Headed, headed-done}
+use Rattle.pes.proofs.Laws as pes
 use Rattle.host.specs.Reports.{Reports}
 use Rattle.host.proofs.Laws.{reports-done}
 use Rattle.host_whole.specs.Whole.{numbers}
@@ -65,20 +66,20 @@ module _ (n : ℕ) where
     pub parsed-above : 0xF3 ≤ n → 1 ≡ truth (parsedId n)
     parsed-above l = parsed-other (omega arith) (omega arith) (omega arith) (omega arith) (omega arith)
 
-  -- what an id stands for and whether parsed contents follow, by the ranges that `id_values` tells
+  -- what an id stands for, by what `from_id` gives of it
+  values-is : (vs : List ℕ) → answer 0 vs ≡ readId n → vs ≡ idValues n
+  values-is vs e = ap (λ (a : Answer). a .values) e
+
+  -- that and whether parsed contents follow, by the ranges that `id_values` tells
   pub unknown : n < 0xBC → (0 ∷ n ∷ [] ≡ idValues n) × (1 ≡ truth (parsedId n))
-  unfolding idValues parsedId
-  unknown h = (simp (le-leb n 0xBB (omega arith)), all-from true 0 0xBC tt (omega arith))
+  unfolding parsedId
+  unknown h = (values-is _ (pes.unknown n h), all-from true 0 0xBC tt (omega arith))
 
   pub audio : (0xC0 ≤ n) × (n < 0xE0) → (0xC0 ∷ n % 32 ∷ [] ≡ idValues n) × (1 ≡ truth (parsedId n))
-  unfolding idValues
-  audio h =
-      (simp (lt-leb n 0xBB (omega arith), lt-leb n 0xBF (omega arith), le-leb n 0xDF (omega arith)), parsed-between (omega arith) (omega arith))
+  audio h = (values-is _ (pes.audio n h), parsed-between (omega arith) (omega arith))
 
   pub video : (0xE0 ≤ n) × (n < 0xF0) → (0xE0 ∷ n % 32 ∷ [] ≡ idValues n) × (1 ≡ truth (parsedId n))
-  unfolding idValues
-  video h =
-      (simp (lt-leb n 0xBB (omega arith), lt-leb n 0xBF (omega arith), lt-leb n 0xDF (omega arith), le-leb n 0xEF (omega arith)), parsed-between (omega arith) (omega arith))
+  video h = (values-is _ (pes.video n h), parsed-between (omega arith) (omega arith))
 
   pub own-low : 0xBC ≤ n → n < 0xC0 → n ∷ 0 ∷ [] ≡ idValues n
   unfolding idValues

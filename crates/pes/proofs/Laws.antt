@@ -38,11 +38,11 @@ module _ (n : ℕ) where
   unfolding idValues
   unknown h = simp (le-leb n 0xBB (omega arith))
 
-  audio : (0xC0 ≤ n) × (n < 0xE0) → answer 0 (0xC0 ∷ n % 32 ∷ []) ≡ readId n
+  pub audio : (0xC0 ≤ n) × (n < 0xE0) → answer 0 (0xC0 ∷ n % 32 ∷ []) ≡ readId n
   unfolding idValues
   audio h = simp (lt-leb n 0xBB (omega arith), lt-leb n 0xBF (omega arith), le-leb n 0xDF (omega arith))
 
-  video : (0xE0 ≤ n) × (n < 0xF0) → answer 0 (0xE0 ∷ n % 32 ∷ []) ≡ readId n
+  pub video : (0xE0 ≤ n) × (n < 0xF0) → answer 0 (0xE0 ∷ n % 32 ∷ []) ≡ readId n
   unfolding idValues
   video h = simp (lt-leb n 0xBB (omega arith), lt-leb n 0xBF (omega arith), lt-leb n 0xDF (omega arith), le-leb n 0xEF (omega arith))
 
