@@ -197,11 +197,11 @@ module _ (c : List ℕ) (z : readContents c .number ≡ 0) where
 
   -- the timestamps, by their two flags
   module _ (k : Known c) where
-    pub times-absent : (l : List ℕ) → getD c 1 0 / 64 ≡ 0 → sets l 7 (9 ∷ 0 ∷ 0 ∷ 0 ∷ 0 ∷ 0 ∷ []) ≡ sets l 7 (row 5 (readPtsDts c))
-    times-absent l h = ap (λ (a : Answer). sets l 7 (row 5 a)) (contents.times-absent c ok (getD c 1 0 / 64) (first-flags c k) h)
+    pub times-absent : (l m : List ℕ) → getD c 1 0 / 64 ≡ 0 → m ≡ sets l 7 (9 ∷ 0 ∷ 0 ∷ 0 ∷ 0 ∷ 0 ∷ []) → m ≡ sets l 7 (row 5 (readPtsDts c))
+    times-absent l m h e = e ∙ ap (λ (a : Answer). sets l 7 (row 5 a)) (contents.times-absent c ok (getD c 1 0 / 64) (first-flags c k) h)
 
-    pub times-invalid : (l : List ℕ) → getD c 1 0 / 64 ≡ 1 → sets l 7 (10 ∷ 0 ∷ 0 ∷ 0 ∷ 0 ∷ 0 ∷ []) ≡ sets l 7 (row 5 (readPtsDts c))
-    times-invalid l h = ap (λ (a : Answer). sets l 7 (row 5 a)) (contents.times-invalid c ok (getD c 1 0 / 64) (first-flags c k) h)
+    pub times-invalid : (l m : List ℕ) → getD c 1 0 / 64 ≡ 1 → m ≡ sets l 7 (10 ∷ 0 ∷ 0 ∷ 0 ∷ 0 ∷ 0 ∷ []) → m ≡ sets l 7 (row 5 (readPtsDts c))
+    times-invalid l m h e = e ∙ ap (λ (a : Answer). sets l 7 (row 5 a)) (contents.times-invalid c ok (getD c 1 0 / 64) (first-flags c k) h)
 
     module _ (x : getD c 1 0 / 64 ≡ 0 → ⊥) (y : getD c 1 0 / 64 ≡ 1 → ⊥) where
       pub pts-there : 8 ≤ length c
@@ -252,7 +252,7 @@ sets-append : (vs ws l : List ℕ) (i : ℕ) → sets (sets l i vs) (i + length 
 sets-append [] ws l i = ap (λ (n : ℕ). sets l n ws) (add-zero i)
 sets-append (v ∷ vs) ws l i = ap (λ (n : ℕ). sets (sets (set l i v) (suc i) vs) n ws) (omega arith) ∙ sets-append vs ws (set l i v) (suc i)
 
-pub joined : (l m n vs ws : List ℕ) (i j : ℕ) → i + length vs ≡ j → m ≡ sets l i vs → n ≡ sets m j ws → n ≡ sets l i (vs ++ ws)
+joined : (l m n vs ws : List ℕ) (i j : ℕ) → i + length vs ≡ j → m ≡ sets l i vs → n ≡ sets m j ws → n ≡ sets l i (vs ++ ws)
 joined l m n vs ws i j e p q = q ∙ (rw (p, ← e) (sets-append vs ws l i))
 
 filled-length : (lent vs : List ℕ) → length (filled lent vs) ≡ length lent
@@ -266,7 +266,7 @@ outs-length a lent = go (eqb (a .number) 0)
     go true = filled-length lent (a .values)
     go false = refl
 
-pub row-length : (k : ℕ) (a : Answer) → length {A = ℕ} (replicate k 0) ≡ k → length (row k a) ≡ suc k
+row-length : (k : ℕ) (a : Answer) → length {A = ℕ} (replicate k 0) ≡ k → length (row k a) ≡ suc k
 row-length k a h = ap suc (outs-length a (replicate k 0) ∙ h)
 
 together : (vs ws : List ℕ) (n m : ℕ) → length vs ≡ n → length ws ≡ m → length (vs ++ ws) ≡ n + m

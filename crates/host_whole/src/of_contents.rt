@@ -48,21 +48,11 @@ fn times(buf: &[u8], fields: &mut [u64; 34])
 {
     let flags = buf[1] / 64;
     if flags == 0 {
-        fields[7] = FIELD_NOT_PRESENT as u64;
-        fields[8] = 0;
-        fields[9] = 0;
-        fields[10] = 0;
-        fields[11] = 0;
-        fields[12] = 0;
+        no_times(FIELD_NOT_PRESENT, fields);
         return;
     }
     if flags == 1 {
-        fields[7] = PTS_DTS_FLAGS_INVALID as u64;
-        fields[8] = 0;
-        fields[9] = 0;
-        fields[10] = 0;
-        fields[11] = 0;
-        fields[12] = 0;
+        no_times(PTS_DTS_FLAGS_INVALID, fields);
         return;
     }
     let pts = stamp(buf, 3);
@@ -82,6 +72,17 @@ fn times(buf: &[u8], fields: &mut [u64; 34])
     let dts = stamp(buf, 8);
     fields[11] = dts.0;
     fields[12] = dts.1;
+}
+
+fn no_times(word: u32, fields: &mut [u64; 34])
+    ensures { λ _. ⌜ now (fields .exit) ≡ sets (now (fields .entry)) 7 (word ∷ 0 ∷ 0 ∷ 0 ∷ 0 ∷ 0 ∷ []) ⌝ }
+{
+    fields[7] = word as u64;
+    fields[8] = 0;
+    fields[9] = 0;
+    fields[10] = 0;
+    fields[11] = 0;
+    fields[12] = 0;
 }
 
 // The timestamp at a place, whose prefix is not looked at: its number, and its value or bit.
