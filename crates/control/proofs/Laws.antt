@@ -3,22 +3,27 @@
 -- proofs cite them too.
 -- Assumes nothing.
 use mathlib.Core.Path.{_≡_, refl, sym, ap, ap₂, _∙_}
-use mathlib.Core.Bool.{true, false, not}
+use mathlib.Core.Bool.{Bool, true, false, not}
 use mathlib.Core.List.{List, [], _∷_}
-use mathlib.Core.Logic.{_↔_}
+use mathlib.Core.Logic.{_↔_, ⊎-elim}
+use types.Run.{OneOf}
+use denote.Enum.Declared.{tagOf}
 use Prim.Native.Nat.{ℕ, _+_, _*_, _/_, _%_, _^_, _≤_, _<_}
 use native.Mathlib.Omega.{arith}
 use lib.ListN.{length, getD}
 use lib.Dec.{eqb, ltb}
 use borrow.Author.Needs.{needs}
 use borrow.Author.Tests.{lt-ltb, le-ltb, eq-eqb, ne-eqb, eqb-true}
-use Rattle.bits.specs.Answer.{Answer, answer}
+use Rattle.bits.specs.Answer.{Answer, answer, pick}
 use Rattle.bits.specs.Field.{bit, field}
 use Rattle.bits.proofs.Fields.{field-split, in-byte}
 use Rattle.bits.proofs.Tests.{limited-in, limited-out, limited-values, limited-value, limited-refused}
 use Rattle.control.specs.declared.ClockRef.{ClockRef}
+use Rattle.control.specs.declared.Compared.{Compared}
+use Rattle.control.specs.declared.Compared.the-variants.{Next, Same, Jump}
+use Rattle.control.proofs.Compared.{the-type as compared-type}
 use Rattle.control.specs.Clock.{clock, clockValues, clockBase, clockExtension, clockFits, readClock, makeClock, clockNumber}
-use Rattle.control.specs.Control.{hasAdaptationField, hasPayload, scrambling, isScrambled, readScheme, follows, makeCounter, counterOf}
+use Rattle.control.specs.Control.{hasAdaptationField, hasPayload, scrambling, isScrambled, readScheme, compare, isSame, follows, makeCounter, counterOf}
 use Rattle.control.specs.Control.{makePid, pidOf}
 
 -- the fourth byte
@@ -47,11 +52,74 @@ module _ (b : ℕ) where
   unfolding readScheme
   scheme-some h z = simp (scrambling-is h, ne-eqb (b / 64) 0 z)
 
-pub follows-is : (a b : ℕ) → eqb ((b % 16 + 1) % 16) a ≡ follows a b
+-- a counter beside another
+module _ (a b : ℕ) where
+  next-on : (b % 16 + 1) % 16 ≡ a → follows a b ≡ true
+  unfolding follows
+  next-on h = eq-eqb ((b + 1) % 2 ^ 4) a (omega (arith, h))
+
+  next-off : ((b % 16 + 1) % 16 ≡ a → ⊥) → follows a b ≡ false
+  unfolding follows
+  next-off h = ne-eqb ((b + 1) % 2 ^ 4) a (λ e. h (omega (arith, e)))
+
+  pub compared-next : (b % 16 + 1) % 16 ≡ a → Next ≡ compare a b
+  unfolding compare
+  compared-next h = simp (next-on h)
+
+  module _ (h₁ : (b % 16 + 1) % 16 ≡ a → ⊥) where
+    pub compared-same : a ≡ b → Same ≡ compare a b
+    unfolding compare
+    compared-same h = simp (next-off h₁, eq-eqb a b h)
+
+    pub compared-jump : (a ≡ b → ⊥) → Jump ≡ compare a b
+    unfolding compare
+    compared-jump h = simp (next-off h₁, ne-eqb a b h)
+
+-- the next counter is the one that follows
+abbrev isNext : Compared → Bool
+isNext Next = true
+isNext Same = false
+isNext Jump = false
+
+next-follows : (a b : ℕ) → isNext (compare a b) ≡ follows a b
+unfolding compare
+next-follows a b = go (follows a b) (eqb a b)
+  where
+    go : (f e : Bool) → isNext (pick f Next (pick e Same Jump)) ≡ f
+    go true e = refl
+    go false true = refl
+    go false false = refl
+
+not-next : (k : Compared) → OneOf (1 ∷ 2 ∷ []) (tagOf compared-type k) → false ≡ isNext k
+not-next Next t = absurd (⊎-elim (λ e. omega arith) (λ e. omega arith) t)
+not-next Same t = refl
+not-next Jump t = refl
+
+-- a counter that follows another is not the same, and the same one is equal
+pub apart : (a b : ℕ) → follows a b ≡ true → eqb a b ≡ false
 unfolding follows
-follows-is a b =
-    let e : (b % 16 + 1) % 16 ≡ (b + 1) % 16 = omega arith in
-    ap (λ (n : ℕ). eqb n a) e
+apart a b h = ne-eqb a b (λ e. omega (arith, eqb-true ((b + 1) % 2 ^ 4) a h))
+
+pub same-equal : (a b : ℕ) → isSame (compare a b) ≡ eqb a b
+unfolding compare
+same-equal a b = go (follows a b) (eqb a b) (apart a b)
+  where
+    go : (f e : Bool) → (f ≡ true → e ≡ false) → isSame (pick f Next (pick e Same Jump)) ≡ e
+    go true e h = sym (h refl)
+    go false true h = refl
+    go false false h = refl
+
+pub not-same : (k : Compared) → OneOf (0 ∷ 2 ∷ []) (tagOf compared-type k) → false ≡ isSame k
+not-same Next t = refl
+not-same Same t = absurd (⊎-elim (λ e. omega arith) (λ e. omega arith) t)
+not-same Jump t = refl
+
+module _ (a b : ℕ) (k : Compared) (e : k ≡ compare a b) where
+  pub follows-next : k ≡ Next → true ≡ follows a b
+  follows-next h = ap isNext (sym h ∙ e) ∙ next-follows a b
+
+  pub follows-not : OneOf (1 ∷ 2 ∷ []) (tagOf compared-type k) → false ≡ follows a b
+  follows-not t = not-next k t ∙ (ap isNext e ∙ next-follows a b)
 
 -- clock references
 module _ (xs : List ℕ) where
@@ -175,4 +243,4 @@ module _ (a b : ClockRef) where
   pub other-base : (a .base ≡ b .base → ⊥) → (eqb (a .base) (b .base) ≡ true) ↔ (a ≡ b)
   other-base h = (λ t. absurd (h (eqb-true (a .base) (b .base) t)), λ e. absurd (h (ap (λ (c : ClockRef). c .base) e)))
 
-pub ruleset control-laws = (payload-bit, adaptation-bit, scrambled-is, scheme-none, scheme-some, follows-is, clock-short, clock-done, number-in, number-base-out, number-extension-out, counter-is, pid-is, same-base, other-base, needs)
+pub ruleset control-laws = (payload-bit, adaptation-bit, scrambled-is, scheme-none, scheme-some, compared-next, compared-same, compared-jump, follows-next, follows-not, clock-short, clock-done, number-in, number-base-out, number-extension-out, counter-is, pid-is, same-base, other-base, needs)

@@ -1,12 +1,14 @@
 -- The packet's fourth byte (clause 2.4.3.2, the transport packet table): transport_scrambling_control 2 bits,
 -- adaptation_field_control 2 bits, continuity_counter 4 bits; and the numbers of counters and PIDs.
-use mathlib.Core.Bool.{Bool, not}
+use mathlib.Core.Bool.{Bool, true, false, not}
 use mathlib.Core.List.{[], _∷_}
 use Prim.Native.Nat.{ℕ, _+_, _%_, _^_}
 use lib.Dec.{eqb, ltb}
 use Rattle.bits.specs.Answer.{Answer, answer, pick, limited}
 use Rattle.bits.specs.Field.{field, flag}
 use Rattle.bits.specs.Numbers.{done, outOfRange}
+use Rattle.control.specs.declared.Compared.{Compared}
+use Rattle.control.specs.declared.Compared.the-variants.{Next, Same, Jump}
 use Rattle.control.specs.declared.CounterMade.{CounterMade}
 use Rattle.control.specs.declared.PidMade.{PidMade}
 use Rattle.control.specs.declared.Scheme.{Scheme}
@@ -44,6 +46,15 @@ makeCounter n = limited (ltb n (2 ^ 4)) (n ∷ [])
 
 unfoldable pub follows : ℕ → ℕ → Bool
 follows a before = eqb ((before + 1) % 2 ^ 4) a
+
+-- beside the last one it is the next, the same, or neither
+unfoldable pub compare : ℕ → ℕ → Compared
+compare a last = pick (follows a last) Next (pick (eqb a last) Same Jump)
+
+abbrev pub isSame : Compared → Bool
+isSame Next = false
+isSame Same = true
+isSame Jump = false
 
 -- continuity_counter, in the fourth byte
 unfoldable pub counterOf : ℕ → ℕ

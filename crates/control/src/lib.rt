@@ -3,7 +3,7 @@ ghost use mathlib.Core.Path.{_≡_};
 ghost use mathlib.Core.Bool.{true};
 ghost use mathlib.Core.Logic.{_↔_};
 ghost use Rattle.control.specs.Clock.{givenRead, givenMade, givenNumber, readClock, makeClock, clockNumber};
-ghost use Rattle.control.specs.Control.{hasAdaptationField, hasPayload, isScrambled, givenScheme, readScheme, follows};
+ghost use Rattle.control.specs.Control.{hasAdaptationField, hasPayload, isScrambled, givenScheme, readScheme, compare, follows};
 ghost use Rattle.control.specs.Control.{givenCounter, makeCounter, counterOf, givenPid, makePid, pidOf};
 use bits::wide;
 
@@ -167,6 +167,13 @@ pub enum CounterMade {
     OutOfRange,
 }
 
+// A counter beside the last one: one more modulo 16, the same, or neither.
+pub enum Compared {
+    Next,
+    Same,
+    Jump,
+}
+
 impl ContinuityCounter {
     pub fn new(count: u8) -> CounterMade
         ensures { λ r. ⌜ givenCounter r ≡ makeCounter count ⌝ }
@@ -191,11 +198,26 @@ impl ContinuityCounter {
         self.val
     }
 
+    pub fn compare(self, last: ContinuityCounter) -> Compared
+        ensures { λ r. ⌜ r ≡ compare (self .val) (last .val) ⌝ }
+    {
+        if (last.val % 16 + 1) % 16 == self.val {
+            return Compared::Next;
+        }
+        if self.val == last.val {
+            return Compared::Same;
+        }
+        Compared::Jump
+    }
+
     // Whether this counter comes straight after `other`.
     pub fn follows(self, other: ContinuityCounter) -> bool
         ensures { λ r. ⌜ r ≡ follows (self .val) (other .val) ⌝ }
     {
-        (other.val % 16 + 1) % 16 == self.val
+        let Compared::Next = self.compare(other) else {
+            return false;
+        };
+        true
     }
 }
 

@@ -26,7 +26,8 @@ use Rattle.control.specs.declared.CounterMade.{CounterMade}
 use Rattle.control.specs.declared.Scheme.{Scheme}
 use Rattle.control.specs.Clock.{clock, clockValues, clockNumber, givenMade, givenNumber, makeClock}
 use Rattle.control.proofs.Laws.{clock-made, counter-made, number-refused, number-of}
-use Rattle.control.specs.Control.{givenCounter, givenScheme, makeCounter, follows, isScrambled, scrambling, readScheme}
+use Rattle.control.specs.declared.Compared.{Compared}
+use Rattle.control.specs.Control.{givenCounter, givenScheme, makeCounter, compare, follows, isScrambled, scrambling, readScheme}
 use Rattle.pes.specs.declared.StreamId.{StreamId}
 use Rattle.pes.specs.Stream.{streamValues}
 use Rattle.packet.specs.Packet.{notPacket, readByteFour}
@@ -38,7 +39,7 @@ use Rattle.contents.specs.declared.EsRateNumber.{EsRateNumber}
 use Rattle.contents.specs.Contents.{makeRate, rateBytes}
 use Rattle.contents.specs.Given.{refusal, trickValues, givenRateMade, givenRateNumber}
 use Rattle.contents.proofs.Laws.{rate-refused, rate-kept}
-use Rattle.host.specs.Clocks.{samePair, sameAnswer, followsAnswer, scramblingAnswer}
+use Rattle.host.specs.Clocks.{samePair, sameAnswer, comparedNumber, comparedAnswer, followsAnswer, scramblingAnswer}
 use Rattle.host.specs.Stamps.{wrapAnswer}
 use Rattle.host.specs.Reports.{Reports, word, filled, outs}
 
@@ -100,10 +101,14 @@ refused-any Refusal.BadCheckBits t = reports (t .number) refl
 refused-any Refusal.HeaderPastBuffer t = reports (t .number) refl
 refused-any Refusal.FieldsPastHeader t = reports (t .number) refl
 
--- a truth value, of two things that were both made of numbers
+-- a number or a truth value, of two things that were both made of numbers
+two-reports : {p q : Answer} (vs ws : List ℕ) (l n k : ℕ) → answer 0 vs ≡ p → answer 0 ws ≡ q → n ≡ k
+    → Reports (andThen p (andThen q (answer 0 (k ∷ [])))) 0 (l ∷ []) (n ∷ [])
+two-reports vs ws l n k p q e = rw (← p, ← q) (reports refl (ap (λ (v : ℕ). v ∷ []) e))
+
 both-reports : {p q : Answer} (vs ws : List ℕ) (l : ℕ) (b t : Bool) → answer 0 vs ≡ p → answer 0 ws ≡ q → b ≡ t
     → Reports (andThen p (andThen q (answer 0 (truth t ∷ [])))) 0 (l ∷ []) (boolByte b ∷ [])
-both-reports vs ws l b t p q e = rw (← p, ← q) (reports refl (ap (λ (n : ℕ). n ∷ []) (ap truth e)))
+both-reports vs ws l b t p q e = two-reports vs ws l _ _ p q (ap truth e)
 
 -- ---- answers that stand behind a first one
 
@@ -184,6 +189,15 @@ follows-reports a b l f m n x y p e q g h =
     let j = given-case givenCounter q g in
     both-reports (x .val ∷ []) (y .val ∷ []) l f (follows a b) i j (rw (counter-made a (x .val) i, counter-made b (y .val) j) at h)
 
+pub compared-reports : (a b l v : ℕ) (k : Compared) (m n : CounterMade) (x y : ContinuityCounter) → givenCounter m ≡ makeCounter a → m ≡ CounterMade.Done x
+    → givenCounter n ≡ makeCounter b → n ≡ CounterMade.Done y → k ≡ compare (x .val) (y .val) → v ≡ comparedNumber k
+    → Reports (comparedAnswer a b) 0 (l ∷ []) (v ∷ [])
+compared-reports a b l v k m n x y p e q g h f =
+    let i = given-case givenCounter p e in
+    let j = given-case givenCounter q g in
+    two-reports (x .val ∷ []) (y .val ∷ []) l v (comparedNumber (compare a b)) i j
+    (f ∙ ap comparedNumber (h ∙ ap₂ compare (counter-made a (x .val) i) (counter-made b (y .val) j)))
+
 -- the number of a scheme, 0 where there is none: the value after the kind
 scheme-is : (b : ℕ) → getD (readScheme b .values) 1 0 ≡ scrambling b
 unfolding readScheme
@@ -234,7 +248,7 @@ rate-some n m e r k p i q j t = reports-of givenRateNumber (q ∙ rate-kept n (e
 -- a wrong answer is refused soon.
 pub ruleset answer-laws = (reports, number-as, truth-as, marker-reports, refused-any)
 
-pub ruleset made-laws = (wrap-reports, same-reports, number-none, number-some, follows-reports, rate-none, rate-some, answer-laws)
+pub ruleset made-laws = (wrap-reports, same-reports, number-none, number-some, compared-reports, follows-reports, rate-none, rate-some, answer-laws)
 
 pub ruleset list-laws = (scrambling-reports, id-values, id-reports, trick-values, last-as, four-as, answer-laws)
 

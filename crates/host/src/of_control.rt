@@ -1,4 +1,5 @@
 // Clock references, counters, PIDs and the control bits of a packet's fourth byte.
+ghost use mathlib.Core.Path.{_≡_};
 ghost use mathlib.Core.List.{[], _∷_};
 ghost use Prim.Native.Nat.{_-_, _^_};
 ghost use Rattle.bits.specs.Answer.{answer};
@@ -6,7 +7,7 @@ ghost use Rattle.bits.specs.Numbers.{done};
 ghost use Rattle.control.specs.Clock.{clockValues, readClock, makeClock, clockNumber};
 ghost use Rattle.control.specs.Control.{makeCounter, givenPid, makePid};
 ghost use Rattle.host.specs.Reports.{Reports};
-ghost use Rattle.host.specs.Clocks.{sameAnswer, followsAnswer, controlAnswer, scramblingAnswer};
+ghost use Rattle.host.specs.Clocks.{sameAnswer, comparedAnswer, comparedNumber, followsAnswer, controlAnswer, scramblingAnswer};
 use crate::numbers::DONE;
 use crate::numbers::OUT_OF_RANGE;
 use crate::numbers::WRONG_LENGTH;
@@ -15,6 +16,7 @@ use control::ClockMade;
 use control::ClockNumber;
 use control::ClockRead;
 use control::ClockRef;
+use control::Compared;
 use control::ContinuityCounter;
 use control::CounterMade;
 use control::Pid;
@@ -110,6 +112,31 @@ pub extern "C" fn cmv_continuity_counter_new(count: u8, value: &mut u64) -> u32
         }
         CounterMade::OutOfRange => OUT_OF_RANGE,
     }
+}
+
+fn compared_number(k: Compared) -> u64
+    ensures { λ r. ⌜ r ≡ comparedNumber k ⌝ }
+{
+    match k {
+        Compared::Next => 0,
+        Compared::Same => 1,
+        Compared::Jump => 2,
+    }
+}
+
+// ContinuityCounter::compare, of two numbers that are counters
+#[no_mangle]
+pub extern "C" fn cmv_continuity_counter_compare(count: u8, last: u8, compared: &mut u64) -> u32
+    ensures { λ w. ⌜ Reports (comparedAnswer count last) w (now (compared .entry) ∷ []) (now (compared .exit) ∷ []) ⌝ }
+{
+    let CounterMade::Done(a) = ContinuityCounter::new(count) else {
+        return OUT_OF_RANGE;
+    };
+    let CounterMade::Done(b) = ContinuityCounter::new(last) else {
+        return OUT_OF_RANGE;
+    };
+    *compared = compared_number(a.compare(b));
+    DONE
 }
 
 // ContinuityCounter::follows, of two numbers that are counters

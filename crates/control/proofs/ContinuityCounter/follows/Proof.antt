@@ -3,4 +3,6 @@ use Rattle.control.proofs.ContinuityCounter.follows.Statement.{statemen
 use Rattle.control.proofs.ContinuityCounter.follows.Tie as tie
 
 pub follows-spec : {M : Type 1} → statement M
-follows-spec = tie.close (tie.spec (λ c. search control-laws) (λ c. search control-laws))
+follows-spec {M} =
+    let answers = tie.spec {M = M} (λ c κs. search control-laws) (λ c. search control-laws) (λ c. search control-laws) (λ c. search control-laws) in
+    tie.close answers
