@@ -4,7 +4,7 @@
    A function returns 0 on success, else a word: number + 256 * first + 65536 * second, that is the number of the refusal and up to two
    numbers that go with it, 0 where there are none. CMV_NUMBER, CMV_FIRST and CMV_SECOND take it apart. The comment of a function tells
    every number that it refuses with, in the order in which it tests for them, and when; if it does not say when, the head of the group
-   does. The two functions that return nothing, cmv_machine_fresh and cmv_gather_fresh, refuse nothing.
+   does. The functions that return nothing, cmv_machine_fresh, cmv_machine_standard and cmv_gather_fresh, refuse nothing.
 
    An out number, uint64_t *, is written on 0 and only then; one that the answer has no value for is written 0. So is a row of out numbers.
    A row that is a state is written on 0 only, by cmv_gather on 20 too. After a refusal the bytes that a function writes to, the log, the
@@ -29,7 +29,7 @@ extern "C" {
 
 /* The layout of the library: its signatures, rows and numbers. An archive of another layout has another symbol in place of this one, and a
    file that includes this header does not link with it. The pointer is the reference; nothing has to read it. */
-extern const unsigned char cmv_abi_1;
+extern const unsigned char cmv_abi_2;
 #if defined(__has_attribute)
 #if __has_attribute(retain)
 __attribute__((used, retain))
@@ -39,7 +39,7 @@ __attribute__((used))
 #elif defined(__GNUC__)
 __attribute__((used))
 #endif
-static const unsigned char *const cmv_abi = &cmv_abi_1;
+static const unsigned char *const cmv_abi = &cmv_abi_2;
 
 /* The numbers of the answers. */
 enum {
@@ -485,6 +485,11 @@ uint32_t cmv_clock_ref_eq(uint64_t base, uint16_t extension, uint64_t base2, uin
    14: count is above 15. */
 uint32_t cmv_continuity_counter_new(uint8_t count, uint64_t *value);
 
+/* compared: 0 if count is the next counter after last (last + 1, and 0 after 15), 1 if it is the same, 2 if it is neither.
+   Refused with 14.
+   14: count or last is above 15. */
+uint32_t cmv_continuity_counter_compare(uint8_t count, uint8_t last, uint64_t *compared);
+
 /* follows: whether count is the next counter after other: other + 1, and 0 after 15.
    Refused with 14.
    14: count or other is above 15. */
@@ -519,18 +524,23 @@ uint32_t cmv_control_constants(uint64_t *max, uint64_t *count);
    1: packet is not 188 bytes long.
    2: its first byte is not 47 hex. */
 
-/* The places of the row of cmv_machine_fresh, cmv_machine_step, cmv_machine_run. */
+/* The places of the row of cmv_machine_fresh, cmv_machine_standard, cmv_machine_step, cmv_machine_run. */
 enum {
-    CMV_MACHINE_PHASE = 0, /* 0 before the first start, 1 after a start, 2 after a break up to the next start */
-    CMV_MACHINE_LAST = 1, /* the counter of the last packet, 255 if there is none */
-    CMV_MACHINE_TAKEN = 2, /* the packets taken so far, which is the index of the next one */
-    CMV_MACHINE_PLACE = 3, /* the next free byte of the log, a multiple of 8 */
-    CMV_MACHINE_SIZE = 4 /* how many numbers the row has */
+    CMV_MACHINE_MODE = 0, /* by whose rules counters are judged: 0 those of mpeg2ts-reader, 1 those of the standard */
+    CMV_MACHINE_PHASE = 1, /* 0 before the first start, 1 after a start, 2 after a break up to the next start */
+    CMV_MACHINE_LAST = 2, /* the counter of the last packet, 255 if there is none */
+    CMV_MACHINE_AGAIN = 3, /* whether the last packet may be repeated: 0 no, as it had no payload flag; 1 once; 2 no more, as it was dropped as a repeat */
+    CMV_MACHINE_TAKEN = 4, /* the packets taken so far, which is the index of the next one */
+    CMV_MACHINE_PLACE = 5, /* the next free byte of the log, a multiple of 8 */
+    CMV_MACHINE_SIZE = 6 /* how many numbers the row has */
 };
 
-/* A start is a packet whose payload_unit_start_indicator is 1, a break one whose counter is not the expected one. The log is a slice of
-   bytes, of which an event takes 8. A packet gives at most two events, so that 16 free bytes are enough for one packet. Once its events
-   are read the log can be used again: set PLACE to 0. */
+/* A start is a packet whose payload_unit_start_indicator is 1, a break one whose counter is not the expected one: the next modulo 16 if
+   the packet has the payload flag, else the last again. In mode 1 a packet with the payload flag that has the last counter again is no
+   break but a repeat if AGAIN is 1: it is taken, and dropped without an event. A packet whose adaptation field has the
+   discontinuity_indicator is then neither a break nor a repeat. MODE may be changed between two packets. The log is a slice of bytes, of
+   which an event takes 8. A packet gives at most two events, so that 16 free bytes are enough for one packet. Once its events are read
+   the log can be used again: set PLACE to 0. */
 
 /* The kinds of events. */
 enum {
@@ -541,16 +551,19 @@ enum {
     CMV_CONTINUITY_ERROR = 5 /* a break: up to the next start no payload is reported */
 };
 
-/* Writes the state before the first packet, with an empty log: {0, 255, 0, 0}. */
-void cmv_machine_fresh(uint64_t state[4]);
+/* Writes the state before the first packet, with an empty log, in the mode of mpeg2ts-reader: {0, 0, 255, 0, 0, 0}. */
+void cmv_machine_fresh(uint64_t state[6]);
+
+/* Writes the same in the standard's mode: {1, 0, 255, 0, 0, 0}. */
+void cmv_machine_standard(uint64_t state[6]);
 
 /* Takes one packet. On 0 the state is the next one and the packet's events stand in the log from the old PLACE on.
    Refused with 1, 2, 14, 16, 15.
-   14: the state is impossible: PHASE above 2, LAST above 15 and not 255, TAKEN of more than 32 bits, or PLACE above log_len or no multiple
-   of 8.
+   14: the state is impossible: MODE above 1, PHASE or AGAIN above 2, LAST above 15 and not 255, TAKEN of more than 32 bits, or PLACE above
+   log_len or no multiple of 8.
    16: TAKEN is 4,294,967,295.
    15: the packet's events need more bytes than log has after PLACE. */
-uint32_t cmv_machine_step(uint64_t state[4], const uint8_t *packet, size_t packet_len, uint8_t *log, size_t log_len);
+uint32_t cmv_machine_step(uint64_t state[6], const uint8_t *packet, size_t packet_len, uint8_t *log, size_t log_len);
 
 /* Takes packets, which follow each other in bytes, up to the first that is refused. On 0 taken is how many it took; ended is 0 if that is
    all of them, else the number that the next one is refused with, 2, 16 or 15; and state and log are those after the packets taken. So if
@@ -558,7 +571,7 @@ uint32_t cmv_machine_step(uint64_t state[4], const uint8_t *packet, size_t packe
    Refused with 1, 14.
    1: bytes_len is not a multiple of 188.
    14: the state is impossible, as of cmv_machine_step; also if there is no packet. */
-uint32_t cmv_machine_run(uint64_t state[4], const uint8_t *bytes, size_t bytes_len, uint8_t *log, size_t log_len, uint64_t *taken,
+uint32_t cmv_machine_run(uint64_t state[6], const uint8_t *bytes, size_t bytes_len, uint8_t *log, size_t log_len, uint64_t *taken,
     uint64_t *ended);
 
 /* kind, index, place, length: the event at byte at of the log. index is that of its packet: TAKEN when it was taken. place and length are

@@ -7,17 +7,22 @@ use Prim.Native.Nat.{ℕ, zero, suc, _+_, _-_, _*_, _%_, _^_, _≤_, _<_, min}
 use native.Mathlib.Omega.{arith}
 use lib.ListN.{length, take, drop, length-append, length-take, length-drop, take-append-drop}
 use lib.Seq.{append-snoc, getD-at}
-use borrow.Author.Tests.{eq-eqb}
 use Rattle.bits.specs.Answer.{All}
-use Rattle.control.specs.Control.{follows}
-use Rattle.packet.specs.Packet.{pidField, counterField, payloadFlag, contentAt}
+use Rattle.control.proofs.Laws.{compared-next}
+use Rattle.packet.specs.Packet.{pidField, counterField, contentAt, payloadThere}
 use Rattle.log.specs.declared.Event.{Event}
 use Rattle.log.specs.Entry.{event, beginPacket, continuePacket}
+use Rattle.machine.specs.declared.Mode.{Mode}
 use Rattle.machine.specs.declared.Phase.{Phase}
 use Rattle.machine.specs.declared.Phase.the-variants.{Begin, Started, IgnoreRest}
 use Rattle.machine.specs.declared.Last.{Last}
 use Rattle.machine.specs.declared.Last.the-variants.{Nothing, At}
-use Rattle.machine.specs.Events.{asCounter, State, state, headAccepted, eventWithPayload, continuous, atStart, begun, continued, eventsOf, phaseAfter, next, run}
+use Rattle.machine.specs.declared.Repeat.{Repeat}
+use Rattle.machine.specs.declared.Repeat.the-variants.{Open}
+use Rattle.machine.specs.declared.Continuity.the-variants.{GoesOn}
+use Rattle.machine.specs.Events.{asCounter, State, state, continuityBy, continuity, headAccepted, eventWithPayload, atStart, begun, continued}
+use Rattle.machine.specs.Events.{eventsOf, next, run}
+use Rattle.machine.proofs.Counters.{on-first, on-next}
 use Rattle.gather.specs.Belongs.{eventBytes}
 use Rattle.writer.specs.Packets.{carrier, carried}
 use Rattle.machine.specs.Run.{IsPacket}
@@ -29,10 +34,10 @@ use Rattle.capacity.proofs.Carrier.{is-packet}
 
 -- ---- one packet
 
-continuous-made : (c : ℕ) (l : Last) (p : List ℕ) → Before c l → payloadFlag p ≡ true → counterField p ≡ c → continuous l p ≡ true
-unfolding continuous follows
-continuous-made c Nothing p h f e = refl
-continuous-made c (At l) p h f e = rw f (eq-eqb ((l .val + 1) % 16) (counterField p) (h ∙ sym e))
+-- one with the counter that is due goes on, in both modes
+due-on : (c : ℕ) (mo : Mode) (l : Last) (r : Repeat) (p : List ℕ) → Before c l → payloadThere p ≡ true → counterField p ≡ c → continuityBy mo l r p ≡ GoesOn
+due-on c mo Nothing r p h f e = on-first mo Nothing r p refl
+due-on c mo (At l) r p h f e = on-next mo l r p f (sym (compared-next (counterField p) (l .val) (omega (arith, h, e))))
 
 module _ (id c : ℕ) (xs : List ℕ) (fits : c ≤ 15) (low : 1 ≤ length xs) (high : length xs ≤ 184) where
   held-made : (start k i : ℕ) → eventWithPayload k i (carrier start id c xs) ≡ endOf k i (length xs)
@@ -41,41 +46,34 @@ module _ (id c : ℕ) (xs : List ℕ) (fits : c ≤ 15) (low : 1 ≤ length xs) 
       let r : 188 - contentAt (carrier start id c xs) ≡ length xs = omega (arith, q) in
       ap₂ (λ (a b : ℕ). event k i a b) q r
 
-  -- a later packet: one continue
-  step-later : (i : ℕ) (l : Last) → Before c l → eventsOf i (state Started l) (carrier 0 id c xs) ≡ endOf continuePacket i (length xs) ∷ []
-  unfolding eventsOf continued
-  step-later i l h =
-      simp (
-        continuous-made c l (carrier 0 id c xs) h (flag-back 0 id c xs) (counter-back 0 id c xs fits),
-        start-back 0 id c xs false refl,
-        payload-back 0 id c xs high low,
-      ) (ap (λ (e : Event). e ∷ []) (held-made 0 continuePacket i))
+  goes-on : (start : ℕ) (s : State) → Before c (s .last) → continuity s (carrier start id c xs) ≡ GoesOn
+  goes-on start s h =
+      due-on c (s .mode) (s .last) (s .again) (carrier start id c xs) h (payload-back start id c xs high low) (counter-back start id c xs fits)
 
-  next-later : (l : Last) → Before c l → next (state Started l) (carrier 0 id c xs) ≡ state Started (At (asCounter c))
-  unfolding next phaseAfter
-  next-later l h =
-      simp (
-        continuous-made c l (carrier 0 id c xs) h (flag-back 0 id c xs) (counter-back 0 id c xs fits),
-        start-back 0 id c xs false refl,
-        counter-back 0 id c xs fits,
-      )
+  -- a later packet: one continue
+  step-later : (i : ℕ) (mo : Mode) (l : Last) (r : Repeat) → Before c l
+      → eventsOf i (state mo Started l r) (carrier 0 id c xs) ≡ endOf continuePacket i (length xs) ∷ []
+  unfolding eventsOf continued
+  step-later i mo l r h =
+      simp (goes-on 0 (state mo Started l r) h, start-back 0 id c xs false refl, payload-back 0 id c xs high low)
+      (ap (λ (e : Event). e ∷ []) (held-made 0 continuePacket i))
+
+  next-later : (mo : Mode) (l : Last) (r : Repeat) → Before c l → next (state mo Started l r) (carrier 0 id c xs) ≡ state mo Started (At (asCounter c)) Open
+  unfolding next
+  next-later mo l r h =
+      simp (goes-on 0 (state mo Started l r) h, start-back 0 id c xs false refl, counter-back 0 id c xs fits, flag-back 0 id c xs)
 
   -- the first packet: what the phase gives, and a begin
   step-first : (i : ℕ) (s : State) → Before c (s .last) → headAccepted xs ≡ true
       → eventsOf i s (carrier 1 id c xs) ≡ atStart (s .phase) i ++ (endOf beginPacket i (length xs) ∷ [])
   unfolding eventsOf begun
   step-first i s h a =
-      simp (
-        continuous-made c (s .last) (carrier 1 id c xs) h (flag-back 1 id c xs) (counter-back 1 id c xs fits),
-        start-back 1 id c xs true refl,
-        payload-back 1 id c xs high low,
-        rest-back 1 id c xs high,
-        a,
-      ) (ap (λ (e : Event). atStart (s .phase) i ++ (e ∷ [])) (held-made 1 beginPacket i))
+      simp (goes-on 1 s h, start-back 1 id c xs true refl, payload-back 1 id c xs high low, rest-back 1 id c xs high, a)
+      (ap (λ (e : Event). atStart (s .phase) i ++ (e ∷ [])) (held-made 1 beginPacket i))
 
-  next-first : (s : State) → next s (carrier 1 id c xs) ≡ state Started (At (asCounter c))
-  unfolding next phaseAfter
-  next-first s = simp (start-back 1 id c xs true refl, counter-back 1 id c xs fits)
+  next-first : (s : State) → Before c (s .last) → next s (carrier 1 id c xs) ≡ state (s .mode) Started (At (asCounter c)) Open
+  unfolding next
+  next-first s h = simp (goes-on 1 s h, start-back 1 id c xs true refl, counter-back 1 id c xs fits, flag-back 1 id c xs)
 
 -- ---- the later packets
 
@@ -89,15 +87,15 @@ takes-rest k xs h = omega (arith, length-drop 184 xs)
 pub chunk-length : (k : ℕ) (xs : List ℕ) → Takes (suc k) xs → (1 ≤ length (take 184 xs)) × (length (take 184 xs) ≤ 184)
 chunk-length k xs h = omega (arith, length-take 184 xs)
 
-run-later : (k id c i : ℕ) (xs : List ℕ) (l : Last) → c ≤ 15 → Before c l → Takes k xs
-    → run i (state Started l) (carried k 0 id c xs) ≡ continuesOf i k (length xs)
+run-later : (k id c i : ℕ) (xs : List ℕ) (mo : Mode) (l : Last) (r : Repeat) → c ≤ 15 → Before c l → Takes k xs
+    → run i (state mo Started l r) (carried k 0 id c xs) ≡ continuesOf i k (length xs)
 unfolding run carried continuesOf
-run-later zero id c i xs l h f t = refl
-run-later (suc k) id c i xs l h f t =
+run-later zero id c i xs mo l r h f t = refl
+run-later (suc k) id c i xs mo l r h f t =
     let q = chunk-length k xs t in
-    rw (step-later id c (take 184 xs) h (q .0) (q .1) i l f, next-later id c (take 184 xs) h (q .0) (q .1) l f)
+    rw (step-later id c (take 184 xs) h (q .0) (q .1) i mo l r f, next-later id c (take 184 xs) h (q .0) (q .1) mo l r f)
     (ap₂ (λ (m : ℕ) (es : List Event). endOf continuePacket i m ∷ es) (length-take 184 xs)
-    (run-later k id ((c + 1) % 16) (suc i) (drop 184 xs) (At (asCounter c)) (omega arith) refl (takes-rest k xs t)
+    (run-later k id ((c + 1) % 16) (suc i) (drop 184 xs) mo (At (asCounter c)) Open (omega arith) refl (takes-rest k xs t)
     ∙ ap (continuesOf (suc i) k) (length-drop 184 xs)))
 
 -- the bytes of a packet in a list, by its event
@@ -184,8 +182,8 @@ module _ (k id c : ℕ) (xs : List ℕ) (takes : Takes (suc k) xs) where
       let e : suc k - 1 ≡ k = omega arith in
       rw (
         step-first id c (take 184 xs) fits (q .0) (q .1) 0 s before headed,
-        next-first id c (take 184 xs) fits (q .0) (q .1) s,
-        run-later k id ((c + 1) % 16) 1 (drop 184 xs) (At (asCounter c)) (omega arith) refl (takes-rest k xs takes),
+        next-first id c (take 184 xs) fits (q .0) (q .1) s before,
+        run-later k id ((c + 1) % 16) 1 (drop 184 xs) (s .mode) (At (asCounter c)) Open (omega arith) refl (takes-rest k xs takes),
         append-assoc,
         length-take 184 xs,
         length-drop 184 xs,

@@ -10,14 +10,15 @@ use Rattle.bits.specs.Answer.{partOf}
 use Rattle.bits.specs.Field.{bit, field}
 use Rattle.pes.specs.Stream.{parsedId}
 use Rattle.pes.specs.Head.{notHead, idOf}
-use Rattle.packet.specs.Packet.{startFlag, payloadFlag, adaptationFlag, contentAt, payloadThere}
+use Rattle.packet.specs.Packet.{startFlag, payloadFlag, adaptationFlag, adaptationThere, contentAt, payloadThere}
 use Rattle.contents.specs.Contents.{notContents, flagged, readPtsDts, dataLength, timesSize, escrAt, esRateAt, trickAt, copyInfoAt, crcAt}
 use Rattle.contents.specs.Contents.{fieldsEnd, payloadAt}
 use Rattle.log.specs.declared.Event.{Event}
 use Rattle.log.specs.Entry.{event, beginPacket}
-use Rattle.machine.specs.declared.Phase.the-variants.{Begin}
-use Rattle.machine.specs.declared.Last.the-variants.{Nothing}
-use Rattle.machine.specs.Events.{state, headAccepted, continuous, begun, eventsOf, run}
+use Rattle.machine.specs.declared.Mode.{Mode}
+use Rattle.machine.specs.declared.Mode.the-variants.{Crate, Standard}
+use Rattle.machine.specs.Events.{continuityBy, discontinuity, headAccepted, begun, eventsOf, run}
+use Rattle.machine.specs.History.{first}
 use Rattle.machine.specs.Step.{fresh}
 use Rattle.pes_header.specs.Payload.{headerPayload, payloadBytes}
 use Rattle.gather.specs.Belongs.{eventBytes}
@@ -69,7 +70,7 @@ permitted-some =
       typed = record { id-byte = omega arith; trick-byte = omega arith; crc-word = omega arith };
     }
 
--- a call that is accepted, with a payload of one byte, read back by a machine before its first packet
+-- a call that is accepted, with a payload of one byte, read back by a machine of each mode before its first packet
 abbrev small : Unit
 small = unit 0xE0 true (Pts 90_000)
 
@@ -77,11 +78,11 @@ accepted-some : Accepts way small (7 ∷ []) (replicate 188 0)
 unfolding writeOf routeTests unitTests sizeTests statedLength countOf dataOf parsedId
 accepted-some = refl
 
-pub read-back-some : ReadBack way small (7 ∷ []) (countGiven way small (7 ∷ []) (replicate 188 0))
-    (outputBytes way small (7 ∷ []) (replicate 188 0)) fresh (replicate 16 0) (standing emptied (0 ∷ []))
+pub read-back-some : (mo : Mode) → ReadBack way small (7 ∷ []) (countGiven way small (7 ∷ []) (replicate 188 0))
+    (outputBytes way small (7 ∷ []) (replicate 188 0)) (fresh mo) (replicate 16 0) (standing emptied (0 ∷ []))
 unfolding wrongGathering writeOf routeTests unitTests sizeTests statedLength countOf dataOf parsedId eventsWritten continuesOf
-read-back-some =
-    read-back way small (7 ∷ []) (replicate 188 0) fresh (replicate 16 0) (standing emptied (0 ∷ [])) accepted-some
+read-back-some mo =
+    read-back way small (7 ∷ []) (replicate 188 0) (fresh mo) (replicate 16 0) (standing emptied (0 ∷ [])) accepted-some
     (record { id-byte = omega arith; trick-byte = omega arith; crc-word = omega arith })
     (omega arith) (refl, omega arith, refl) (omega arith) (omega arith) refl (omega arith)
 
@@ -98,9 +99,10 @@ packet = 0x47 ∷ 0x40 ∷ 0 ∷ 0x10 ∷ 0 ∷ 0 ∷ 1 ∷ 0xBC ∷ 0 ∷ 0 ∷
 abbrev begin : Event
 begin = event beginPacket 0 4 184
 
-bare-one : segments (run 0 (state Begin Nothing) (packet ∷ [])) ≡ segment begin [] ∷ []
-unfolding segments upToBegin run eventsOf begun continuous startFlag headAccepted payloadThere payloadFlag contentAt adaptationFlag notHead bit field
-bare-one = refl
+bare-one : (mo : Mode) → segments (run 0 (first mo) (packet ∷ [])) ≡ segment begin [] ∷ []
+unfolding segments upToBegin run eventsOf begun continuityBy discontinuity startFlag headAccepted payloadThere payloadFlag contentAt adaptationThere adaptationFlag notHead bit field
+bare-one Crate = refl
+bare-one Standard = refl
 
 bare-bytes : bytesAt (packet ∷ []) begin ≡ 0 ∷ 0 ∷ 1 ∷ 0xBC ∷ 0 ∷ 0 ∷ carries
 unfolding eventBytes
@@ -129,12 +131,12 @@ bare-payload : payloadBytes (0 ∷ 0 ∷ 1 ∷ 0xBC ∷ 0 ∷ 0 ∷ carries) ++ 
 unfolding payloadBytes headerPayload partOf parsedId notHead idOf bit field
 bare-payload = refl
 
-pub bare-in-one : Delivers bare carries (state Begin Nothing) (packet ∷ [])
-bare-in-one =
+pub bare-in-one : (mo : Mode) → Delivers bare carries (first mo) (packet ∷ [])
+bare-in-one mo =
     record {
       packets = ((refl, refl), tt);
       segment-of = segment begin [];
-      one = bare-one;
+      one = bare-one mo;
       gives = record { header = rw bare-bytes bare-fields; payload-joined = rw bare-bytes bare-payload };
     }
 

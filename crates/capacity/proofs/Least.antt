@@ -21,8 +21,10 @@ use Rattle.log.specs.declared.Event.{Event}
 use Rattle.log.specs.Entry.{beginPacket, continuePacket}
 use Rattle.machine.specs.declared.Phase.{Phase}
 use Rattle.machine.specs.declared.Phase.the-variants.{Begin, Started, IgnoreRest}
-use Rattle.machine.specs.Events.{State, headAccepted, eventWithPayload, continuous, broken, settled, atStart, begun, continued, eventsOf}
-use Rattle.machine.specs.Events.{next, run}
+use Rattle.machine.specs.declared.Continuity.{Continuity}
+use Rattle.machine.specs.declared.Continuity.the-variants.{GoesOn, Repeats, Breaks}
+use Rattle.machine.specs.Events.{State, continuity, headAccepted, eventWithPayload, atStart, begun, continued, eventsOf, next, run}
+use Rattle.machine.proofs.Theorems.{happened, events-are}
 use Rattle.pes_header.specs.Payload.{headerPayload, payloadBytes}
 use Rattle.gather.specs.Belongs.{eventBytes}
 use Rattle.writer.specs.declared.Times.{Times}
@@ -74,10 +76,6 @@ module _ (i : ℕ) (p : List ℕ) where
   within-held : Within 1 (eventWithPayload beginPacket i p ∷ []) × Within 1 (eventWithPayload continuePacket i p ∷ [])
   within-held = let h = content-low p in ((omega arith, (omega arith, tt)), (omega arith, (omega arith, tt)))
 
-  within-broken : (c : Bool) → Within 0 (broken c i)
-  within-broken true = within-none 0
-  within-broken false = (omega arith, (omega arith, tt))
-
   within-opened : (f : Phase) → Within 0 (atStart f i)
   within-opened Begin = (omega arith, (omega arith, tt))
   within-opened Started = (omega arith, (omega arith, tt))
@@ -95,13 +93,16 @@ module _ (i : ℕ) (p : List ℕ) where
   within-continued Started = within-pick 1 (payloadThere p) _ _ (within-held .1) (within-none 1)
   within-continued IgnoreRest = within-none 1
 
+  -- in both modes: a repeat that is dropped gives none
+  within-happened : (c : Continuity) (s : Bool) (f : Phase) → Within 1 (happened c s f i p)
+  within-happened GoesOn true f = within-append 0 1 (atStart f i) (begun i p) (within-opened f) within-begun
+  within-happened GoesOn false f = within-continued f
+  within-happened Repeats s f = within-none 1
+  within-happened Breaks true f = (omega (arith, within-begun .0), (omega arith, within-begun .1))
+  within-happened Breaks false f = (omega arith, (omega arith, tt))
+
   one-part : (s : State) → Within 1 (eventsOf i s p)
-  unfolding eventsOf
-  one-part s =
-      let c = continuous (s .last) p in
-      let f = settled c (s .phase) in
-      within-append 0 1 (broken c i) _ (within-broken c)
-      (within-pick 1 (startFlag p) _ _ (within-append 0 1 (atStart f i) (begun i p) (within-opened f) within-begun) (within-continued f))
+  one-part s = rw (events-are i s p) (within-happened (continuity s p) (startFlag p) (s .phase))
 
 -- a run has at most as many parts as packets
 run-within : (ps : List (List ℕ)) (i : ℕ) (s : State) → Within (length ps) (run i s ps)

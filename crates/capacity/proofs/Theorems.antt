@@ -1,4 +1,5 @@
 -- Demand 3: what the writer accepts reads back whole, in the fewest packets, and 19 is given exactly when no packets that fit would do.
+-- A state and a machine have their mode, so what is said of all of them is said of both modes.
 -- Assumes nothing.
 use mathlib.Core.Path.{_≡_, refl, sym, ap, ap₂, subst, _∙_}
 use mathlib.Core.Logic.{_↔_}
@@ -16,10 +17,10 @@ use Rattle.bits.proofs.Checks.{accepted-by}
 use Rattle.pes.specs.Stream.{parsedId}
 use Rattle.log.specs.declared.Event.{Event}
 use Rattle.log.specs.Entry.{beginPacket}
-use Rattle.machine.specs.declared.Phase.the-variants.{Begin}
-use Rattle.machine.specs.declared.Last.the-variants.{Nothing}
+use Rattle.machine.specs.declared.Mode.{Mode}
 use Rattle.machine.specs.declared.Machine.{Machine}
-use Rattle.machine.specs.Events.{State, state, atStart, run}
+use Rattle.machine.specs.Events.{State, atStart, run}
+use Rattle.machine.specs.History.{first}
 use Rattle.machine.specs.Step.{stateOf, Stands}
 use Rattle.machine.specs.Run.{reportOf, ranLog, IsPacket, Logged}
 use Rattle.machine.proofs.Theorems.{run-logged}
@@ -166,7 +167,7 @@ module _ (r : Route) (u : Unit) (payload out : List ℕ) (h : Accepts r u payloa
       HeaderRead u (length payload) (bytesAt (outputPackets r u payload out) begin)
   accepted-header = rw (output-packets r u payload out h) (permitted-header r u payload ok)
 
--- ---- 5. 19 exactly when no packets that fit deliver a permitted unit
+-- ---- 5. 19 exactly when no packets that fit deliver a permitted unit: in each mode by itself, as over all states one mode would answer for the other
 
 module _ (r : Route) (u : Unit) (payload : List ℕ) (ok : Permitted r u (length payload)) where
   abbrev count : ℕ
@@ -176,48 +177,47 @@ module _ (r : Route) (u : Unit) (payload : List ℕ) (ok : Permitted r u (length
   is-19 true m e = refl
   is-19 false m e = let z : _≡_ {A = ℕ} 0 19 = ap (λ (a : Answer). a .number) e in absurd (omega arith)
 
-  -- of any way to deliver that takes the count, and that the writer's packets have from some state
-  room-for : (A : State → List (List ℕ) → Type 0) → ((s : State) (ps : List (List ℕ)) → A s ps → count ≤ length ps)
-      → (s₀ : State) → A s₀ (packetsOf r u payload) → (out : List ℕ)
-      → (writeOf r u payload out ≡ answer noRoom []) ↔ ((s : State) (ps : List (List ℕ)) → 188 * length ps ≤ length out → A s ps → ⊥)
-  room-for A low s₀ h₀ out =
-      (λ e s ps fits d. omega (arith, short e, low s ps d), λ h. permitted-answer r u payload out ok ∙ go (ltb (length out / 188) count) refl h)
+  -- of any way to deliver that takes the count, and that the writer's packets have from a state of the mode
+  room-for : (mo : Mode) (A : State → List (List ℕ) → Type 0) → ((s : State) (ps : List (List ℕ)) → A s ps → count ≤ length ps)
+      → A (first mo) (packetsOf r u payload) → (out : List ℕ)
+      → (writeOf r u payload out ≡ answer noRoom [])
+      ↔ ((s : State) (ps : List (List ℕ)) → s .mode ≡ mo → 188 * length ps ≤ length out → A s ps → ⊥)
+  room-for mo A low h₀ out =
+      (λ e s ps m fits d. omega (arith, short e, low s ps d), λ h. permitted-answer r u payload out ok ∙ go (ltb (length out / 188) count) refl h)
     where
       short : writeOf r u payload out ≡ answer noRoom [] → length out / 188 < count
       short e = ltb-true (length out / 188) count (is-19 (ltb (length out / 188) count) count (sym (permitted-answer r u payload out ok) ∙ e))
 
-      go : (b : Bool) → ltb (length out / 188) count ≡ b → ((s : State) (ps : List (List ℕ)) → 188 * length ps ≤ length out → A s ps → ⊥)
+      go : (b : Bool) → ltb (length out / 188) count ≡ b
+          → ((s : State) (ps : List (List ℕ)) → s .mode ≡ mo → 188 * length ps ≤ length out → A s ps → ⊥)
           → pick b (answer noRoom []) (answer done (count ∷ [])) ≡ answer noRoom []
       go true e h = refl
       go false e h =
-          absurd (h s₀ (packetsOf r u payload) (omega (arith, written-count r u payload, ltb-false (length out / 188) count e)) h₀)
+          absurd (h (first mo) (packetsOf r u payload) refl (omega (arith, written-count r u payload, ltb-false (length out / 188) count e)) h₀)
 
-  abbrev fresh : State
-  fresh = state Begin Nothing
-
-  fresh-written : Strict r u payload fresh (packetsOf r u payload)
-  fresh-written = permitted-written r u payload ok fresh (omega arith)
+  first-written : (mo : Mode) → Strict r u payload (first mo) (packetsOf r u payload)
+  first-written mo = permitted-written r u payload ok (first mo) (omega arith)
 
   enough : (s : State) (ps : List (List ℕ)) → Delivers u payload s ps → count ≤ length ps
   enough s ps d = least u payload s ps (unit-fits r u (length payload) ok .id-parsed) d
 
   -- from a machine with no last counter or the one just before
-  pub room : (out : List ℕ) → (writeOf r u payload out ≡ answer noRoom [])
-      ↔ ((s : State) (ps : List (List ℕ)) → Ready r s → 188 * length ps ≤ length out → Delivers u payload s ps → ⊥)
-  room out =
+  pub room : (mo : Mode) (out : List ℕ) → (writeOf r u payload out ≡ answer noRoom [])
+      ↔ ((s : State) (ps : List (List ℕ)) → s .mode ≡ mo → Ready r s → 188 * length ps ≤ length out → Delivers u payload s ps → ⊥)
+  room mo out =
       let way : State → List (List ℕ) → Type 0 = λ s ps. Ready r s × Delivers u payload s ps in
-      let e = room-for way (λ s ps d. enough s ps (d .1)) fresh (omega arith, fresh-written .delivers) out in
-      (λ a s ps f fits d. e .0 a s ps fits (f, d), λ a. e .1 (λ s ps fits d. a s ps (d .0) fits (d .1)))
+      let e = room-for mo way (λ s ps d. enough s ps (d .1)) (omega arith, first-written mo .delivers) out in
+      (λ a s ps m f fits d. e .0 a s ps m fits (f, d), λ a. e .1 (λ s ps m fits d. a s ps m (d .0) fits (d .1)))
 
   -- from any machine
-  pub room-weak : (out : List ℕ) → (writeOf r u payload out ≡ answer noRoom [])
-      ↔ ((s : State) (ps : List (List ℕ)) → 188 * length ps ≤ length out → Delivers u payload s ps → ⊥)
-  room-weak = room-for (Delivers u payload) enough fresh (fresh-written .delivers)
+  pub room-weak : (mo : Mode) (out : List ℕ) → (writeOf r u payload out ≡ answer noRoom [])
+      ↔ ((s : State) (ps : List (List ℕ)) → s .mode ≡ mo → 188 * length ps ≤ length out → Delivers u payload s ps → ⊥)
+  room-weak mo = room-for mo (Delivers u payload) enough (first-written mo .delivers)
 
   -- as the unit is asked to be delivered
-  pub room-strict : (out : List ℕ) → (writeOf r u payload out ≡ answer noRoom [])
-      ↔ ((s : State) (ps : List (List ℕ)) → 188 * length ps ≤ length out → Strict r u payload s ps → ⊥)
-  room-strict = room-for (Strict r u payload) (λ s ps d. enough s ps (d .delivers)) fresh fresh-written
+  pub room-strict : (mo : Mode) (out : List ℕ) → (writeOf r u payload out ≡ answer noRoom [])
+      ↔ ((s : State) (ps : List (List ℕ)) → s .mode ≡ mo → 188 * length ps ≤ length out → Strict r u payload s ps → ⊥)
+  room-strict mo = room-for mo (Strict r u payload) (λ s ps d. enough s ps (d .delivers)) (first-written mo)
 
 -- ---- 6. THE OUTPUT OF `write`, TAKEN BY `run` with room in index and log, LEAVES EXACTLY THE UNIT'S EVENTS IN THE LOG
 

@@ -59,7 +59,7 @@ outputBytes r u payload out = take (188 * countGiven r u payload out) (outputOf 
 abbrev pub outputPackets : Route → Unit → List ℕ → List ℕ → List (List ℕ)
 outputPackets r u payload out = packetsIn (outputBytes r u payload out)
 
--- no last counter, or the one before the first: any phase
+-- no last counter, or the one before the first: any mode, any phase, whatever may be repeated
 abbrev pub Before : ℕ → Last → Type 0
 Before c Nothing = 0 ≤ 0
 Before c (At l) = (l .val + 1) % 16 ≡ c

@@ -9,7 +9,9 @@ use log::EntryRead;
 use log::Event;
 use machine::Last;
 use machine::Machine;
+use machine::Mode;
 use machine::Phase;
+use machine::Repeat;
 use machine::Verdict;
 
 // Room for one entry more than the example has.
@@ -30,6 +32,13 @@ fn number(v: Verdict) {
     }
 }
 
+fn mode(m: Mode) {
+    match m {
+        Mode::Crate => show::number(0),
+        Mode::Standard => show::number(1),
+    }
+}
+
 fn phase(p: Phase) {
     match p {
         Phase::Begin => show::number(0),
@@ -42,6 +51,14 @@ fn last(l: Last) {
     match l {
         Last::Nothing => show::number(255),
         Last::At(counter) => show::number(wide(counter.count())),
+    }
+}
+
+fn again(r: Repeat) {
+    match r {
+        Repeat::Barred => show::number(0),
+        Repeat::Open => show::number(1),
+        Repeat::Spent => show::number(2),
     }
 }
 
@@ -65,10 +82,14 @@ fn entries(log: &[u8; LOG]) {
 }
 
 fn state(m: Machine, log: &[u8; LOG]) {
+    let o = m.mode;
     let p = m.phase;
     let l = m.last;
+    let r = m.again;
+    mode(o);
     phase(p);
     last(l);
+    again(r);
     show::two(m.taken as u64, m.place as u64);
     entries(log);
     show::end();
@@ -76,7 +97,7 @@ fn state(m: Machine, log: &[u8; LOG]) {
 
 // ---- calls
 
-fn step(call: &[u8], m: Machine, packet: &[u8], log: &mut [u8; LOG]) -> Machine {
+pub fn step(call: &[u8], m: Machine, packet: &[u8], log: &mut [u8; LOG]) -> Machine {
     let s = own_state::step(m, packet, log);
     let v = s.verdict;
     let after = s.machine;
@@ -96,7 +117,7 @@ fn steps(call: &[u8], m: Machine, stream: &[u8]) {
 }
 
 // Packets, all by one call.
-fn all(call: &[u8], m: Machine, bytes: &[u8]) {
+pub fn all(call: &[u8], m: Machine, bytes: &[u8]) {
     let mut log = [0u8; LOG];
     let r = machine::run(m, bytes, &mut log);
     let v = r.verdict;
@@ -118,8 +139,10 @@ fn cut_short(stream: &[u8]) {
 // A state that is refused: no entry begins at a place of 3.
 fn between_entries() -> Machine {
     Machine {
+        mode: Mode::Standard,
         phase: Phase::Started,
         last: Last::Nothing,
+        again: Repeat::Spent,
         taken: 7,
         place: 3,
     }

@@ -6,6 +6,7 @@ mod headers;
 mod machines;
 mod own_state;
 mod packets;
+mod repeats;
 mod show;
 mod timestamps;
 
@@ -14,5 +15,6 @@ fn main() {
     headers::run();
     let stream = packets::stream();
     machines::run(&stream);
+    repeats::run();
     gathering::run(&stream);
 }

@@ -9,6 +9,7 @@ use lib.ListN.{length, getD}
 use borrow.Author.Needs.{needs}
 use borrow.Author.Tests.{eq-eqb, ne-eqb}
 use Rattle.bits.specs.Answer.{Answer, answer, pick, firstOf, other}
+use Rattle.machine.specs.declared.Mode.{Mode}
 use Rattle.machine.specs.declared.Machine.{Machine}
 use Rattle.machine.specs.declared.row.RowRead.{RowRead}
 use Rattle.machine.specs.declared.row.RowRead.the-variants.{Is, Stray}
@@ -161,8 +162,8 @@ module _ (r : writer-row.RowRead) (q : Route) (w xs ys : List ℕ) (of : r ≡ u
 
 -- ---- the rows of the states before the first packet
 
-pub machine-fresh : (m : Machine) (xs : List ℕ) → m ≡ fresh → xs ≡ rowOf m → xs ≡ rowOf fresh
-machine-fresh m xs e f = f ∙ ap rowOf e
+pub machine-fresh : (mo : Mode) (m : Machine) (xs : List ℕ) → m ≡ fresh mo → xs ≡ rowOf m → xs ≡ rowOf (fresh mo)
+machine-fresh mo m xs e f = f ∙ ap rowOf e
 
 pub gather-fresh : (g : Gathering) (xs : List ℕ) → g ≡ gather.emptied → xs ≡ store.gatheringRow g → xs ≡ store.gatheringRow gather.emptied
 gather-fresh g xs e f = f ∙ ap store.gatheringRow e

@@ -2,6 +2,7 @@
 ghost use mathlib.Core.Path.{_≡_};
 ghost use mathlib.Core.List.{[], _∷_};
 ghost use Rattle.log.specs.Entry.{readEntry};
+ghost use Rattle.machine.specs.declared.Mode.{Mode};
 ghost use Rattle.machine.specs.Step.{fresh};
 ghost use Rattle.host.specs.Reports.{Reports};
 ghost use Rattle.machine.specs.Row.{rowOf, rowStep, rowStepOf, rowRun, rowRunOf};
@@ -15,17 +16,25 @@ use machine::Machine;
 use machine::row;
 use machine::row::RowRead;
 
-// The row of a machine before its first packet, with an empty log (Machine::new): 0, 255, 0, 0
+// The row of a machine before its first packet, with an empty log, in the crate's mode (Machine::new): 0, 0, 255, 0, 0, 0
 #[no_mangle]
-pub extern "C" fn cmv_machine_fresh(state: &mut [u64; 4])
-    ensures { λ _. ⌜ now (state .exit) ≡ rowOf fresh ⌝ }
+pub extern "C" fn cmv_machine_fresh(state: &mut [u64; 6])
+    ensures { λ _. ⌜ now (state .exit) ≡ rowOf (fresh Mode.Crate) ⌝ }
 {
     row::write(Machine::new(), state);
 }
 
+// The same in the standard mode (Machine::standard): 1, 0, 255, 0, 0, 0
+#[no_mangle]
+pub extern "C" fn cmv_machine_standard(state: &mut [u64; 6])
+    ensures { λ _. ⌜ now (state .exit) ≡ rowOf (fresh Mode.Standard) ⌝ }
+{
+    row::write(Machine::standard(), state);
+}
+
 // machine::step over a lent row
 #[no_mangle]
-pub extern "C" fn cmv_machine_step(state: &mut [u64; 4], packet: &[u8], log: &mut [u8]) -> u32
+pub extern "C" fn cmv_machine_step(state: &mut [u64; 6], packet: &[u8], log: &mut [u8]) -> u32
     ensures { λ r. ⌜ rowStep r (now (state .exit)) (now (log .exit))
         ≡ rowStepOf (now (state .entry)) (now (packet .entry)) (now (log .entry)) ⌝ }
 {
@@ -47,7 +56,7 @@ pub extern "C" fn cmv_machine_step(state: &mut [u64; 4], packet: &[u8], log: &mu
 // machine::run over a lent row: how many packets were taken, and the number that the next one was refused with, 0 where all were taken
 #[no_mangle]
 pub extern "C" fn cmv_machine_run(
-    state: &mut [u64; 4],
+    state: &mut [u64; 6],
     bytes: &[u8],
     log: &mut [u8],
     taken: &mut u64,

@@ -1,5 +1,5 @@
--- A machine as the numbers that a host keeps, in this order: phase 0 Begin, 1 Started, 2 IgnoreRest; last counter 0 to 15, or 255 for
--- none; packets taken; next free place of the log.
+-- A machine as the numbers that a host keeps, in this order: mode 0 Crate, 1 Standard; phase 0 Begin, 1 Started, 2 IgnoreRest; last counter
+-- 0 to 15, or 255 for none; repeat 0 Barred, 1 Open, 2 Spent; packets taken; next free place of the log.
 use mathlib.Core.Bool.{Bool, true, false, _||_}
 use mathlib.Core.List.{List, [], _∷_}
 use Prim.Native.Nat.{ℕ}
@@ -7,24 +7,42 @@ use lib.Dec.{eqb, ltb}
 use lib.ListN.{getD}
 use Rattle.bits.specs.Answer.{pick, firstOf}
 use Rattle.bits.specs.Numbers.{done}
+use Rattle.machine.specs.declared.Mode.{Mode}
+use Rattle.machine.specs.declared.Mode.the-variants.{Crate, Standard}
 use Rattle.machine.specs.declared.Phase.{Phase}
 use Rattle.machine.specs.declared.Phase.the-variants.{Begin, Started, IgnoreRest}
 use Rattle.machine.specs.declared.Last.{Last}
 use Rattle.machine.specs.declared.Last.the-variants.{Nothing, At}
+use Rattle.machine.specs.declared.Repeat.{Repeat}
+use Rattle.machine.specs.declared.Repeat.the-variants.{Barred, Open, Spent}
 use Rattle.machine.specs.declared.Machine.{Machine}
+use Rattle.machine.specs.declared.row.ModeRead.{ModeRead}
+use Rattle.machine.specs.declared.row.PhaseRead.{PhaseRead}
+use Rattle.machine.specs.declared.row.LastRead.{LastRead}
+use Rattle.machine.specs.declared.row.AgainRead.{AgainRead}
 use Rattle.machine.specs.declared.row.RowRead.{RowRead}
 use Rattle.machine.specs.declared.row.RowRead.the-variants.{Is, Stray}
 use Rattle.machine.specs.Events.{asCounter}
-use Rattle.machine.specs.Step.{notTaken, stepOf, logOf}
+use Rattle.machine.specs.Step.{machine, notTaken, stepOf, logOf}
 use Rattle.machine.specs.Run.{notRun, reportOf, ranLog}
 
 -- ---- each number
+
+abbrev pub modeOf : ℕ → Mode
+modeOf n = pick (eqb n 0) Crate Standard
 
 abbrev pub phaseOf : ℕ → Phase
 phaseOf n = pick (eqb n 0) Begin (pick (eqb n 1) Started IgnoreRest)
 
 abbrev pub lastOf : ℕ → Last
 lastOf n = pick (eqb n 255) Nothing (At (asCounter n))
+
+abbrev pub againOf : ℕ → Repeat
+againOf n = pick (eqb n 0) Barred (pick (eqb n 1) Open Spent)
+
+abbrev pub modeNumber : Mode → ℕ
+modeNumber Crate = 0
+modeNumber Standard = 1
 
 abbrev pub phaseNumber : Phase → ℕ
 phaseNumber Begin = 0
@@ -35,21 +53,31 @@ abbrev pub lastNumber : Last → ℕ
 lastNumber Nothing = 255
 lastNumber (At c) = c .val
 
+abbrev pub againNumber : Repeat → ℕ
+againNumber Barred = 0
+againNumber Open = 1
+againNumber Spent = 2
+
 -- ---- the row
 
--- a number that stands for nothing: a phase above 2, a count above 32 bits, a counter above 15 but for 255
+-- a number that stands for no counter: above 15, but for 255
+abbrev pub noLast : ℕ → Bool
+noLast n = pick (eqb n 255) false (ltb 15 n)
+
+-- a number that stands for nothing: a mode above 1, a phase above 2, no counter, a repeat above 2, a count above 32 bits
 unfoldable pub strays : List ℕ → Bool
-strays xs = ltb 2 (getD xs 0 0) || ltb 4_294_967_295 (getD xs 2 0) || pick (eqb (getD xs 1 0) 255) false (ltb 15 (getD xs 1 0))
+strays xs =
+    ltb 1 (getD xs 0 0) || ltb 2 (getD xs 1 0) || noLast (getD xs 2 0) || ltb 2 (getD xs 3 0) || ltb 4_294_967_295 (getD xs 4 0)
 
 -- THE MACHINE THAT A ROW STANDS FOR, if for one
 unfoldable pub machineOf : List ℕ → RowRead
 machineOf xs =
     pick (strays xs) Stray
-    (Is (record { phase = phaseOf (getD xs 0 0); last = lastOf (getD xs 1 0); taken = getD xs 2 0; place = getD xs 3 0 }))
+    (Is (machine (modeOf (getD xs 0 0)) (phaseOf (getD xs 1 0)) (lastOf (getD xs 2 0)) (againOf (getD xs 3 0)) (getD xs 4 0) (getD xs 5 0)))
 
 -- THE ROW OF A MACHINE
 unfoldable pub rowOf : Machine → List ℕ
-rowOf m = phaseNumber (m .phase) ∷ lastNumber (m .last) ∷ m .taken ∷ m .place ∷ []
+rowOf m = modeNumber (m .mode) ∷ phaseNumber (m .phase) ∷ lastNumber (m .last) ∷ againNumber (m .again) ∷ m .taken ∷ m .place ∷ []
 
 -- ---- a step over a row: its number, and the row and the log after it
 
@@ -92,3 +120,19 @@ runBy (Is m) xs bs l t e =
 
 unfoldable pub rowRunOf : List ℕ → List ℕ → List ℕ → ℕ → ℕ → RowRun
 rowRunOf xs bs l t e = runBy (machineOf xs) xs bs l t e
+
+-- ---- cited by private functions alone
+
+-- what a number is read as
+
+abbrev pub modeRead : ℕ → ModeRead
+modeRead n = pick (ltb 1 n) ModeRead.Stray (ModeRead.Is (modeOf n))
+
+abbrev pub phaseRead : ℕ → PhaseRead
+phaseRead n = pick (ltb 2 n) PhaseRead.Stray (PhaseRead.Is (phaseOf n))
+
+abbrev pub lastRead : ℕ → LastRead
+lastRead n = pick (noLast n) LastRead.Stray (LastRead.Is (lastOf n))
+
+abbrev pub againRead : ℕ → AgainRead
+againRead n = pick (ltb 2 n) AgainRead.Stray (AgainRead.Is (againOf n))

@@ -15,9 +15,11 @@ use Rattle.log.specs.declared.Event.{Event}
 use Rattle.log.specs.Entry.{event}
 use Rattle.machine.specs.declared.Phase.{Phase}
 use Rattle.machine.specs.declared.Phase.the-variants.{Begin, Started, IgnoreRest}
-use Rattle.machine.specs.Events.{State, headAccepted, continuous, settled, broken, atStart, begun, continued, eventsOf}
-use Rattle.machine.specs.Events.{phaseAfter, next, run}
+use Rattle.machine.specs.declared.Continuity.{Continuity}
+use Rattle.machine.specs.declared.Continuity.the-variants.{GoesOn, Repeats, Breaks}
+use Rattle.machine.specs.Events.{State, headAccepted, continuity, atStart, begun, continued, eventsOf, next, run}
 use Rattle.machine.specs.Run.{IsPacket}
+use Rattle.machine.proofs.Theorems.{happened, events-are, phaseThen, phase-then}
 use Rattle.gather.specs.declared.Lies.the-variants.{Store}
 use Rattle.gather.specs.Gather.{gathering, emptied}
 use Rattle.units.specs.Units.{Standing, called, gatherAll, answers, readAt, unitBytes}
@@ -71,19 +73,15 @@ module _ (n i : ℕ) (p : List ℕ) (b : i < n) where
   sound-opened Started = (omega arith, tt)
   sound-opened IgnoreRest = tt
 
-  sound-broken : (c : Bool) → All (Sound n) (broken c i)
-  sound-broken true = tt
-  sound-broken false = (omega arith, tt)
-
-  sound-rest : (s : Bool) (ph : Phase) → All (Sound n) (pick s (atStart ph i ++ begun i p) (continued ph i p))
-  sound-rest true ph = all-append (Sound n) (atStart ph i) (begun i p) (sound-opened ph) sound-begun
-  sound-rest false ph = sound-continued ph
+  sound-happened : (c : Continuity) (s : Bool) (ph : Phase) → All (Sound n) (happened c s ph i p)
+  sound-happened GoesOn true ph = all-append (Sound n) (atStart ph i) (begun i p) (sound-opened ph) sound-begun
+  sound-happened GoesOn false ph = sound-continued ph
+  sound-happened Repeats s ph = tt
+  sound-happened Breaks true ph = (omega arith, sound-begun)
+  sound-happened Breaks false ph = (omega arith, tt)
 
   sound-events : (s : State) → All (Sound n) (eventsOf i s p)
-  unfolding eventsOf
-  sound-events s =
-      let c = continuous (s .last) p in
-      all-append (Sound n) (broken c i) _ (sound-broken c) (sound-rest (startFlag p) (settled c (s .phase)))
+  sound-events s = rw (events-are i s p) (sound-happened (continuity s p) (startFlag p) (s .phase))
 
 sound-run : (n i : ℕ) (s : State) (ps : List (List ℕ)) → i + length ps ≤ n → All (Sound n) (run i s ps)
 unfolding run
@@ -103,37 +101,25 @@ abbrev Begun : List Event → Type 0
 Begun [] = Unit {0}
 Begun (e ∷ es) = (Kind 2 e → Orderly es) × Begun es
 
--- from the phase Started on
-orderly-events : (c s : Bool) (i : ℕ) (p : List ℕ) (r : List Event) → (c ≡ true → s ≡ false → Orderly r)
-    → Orderly ((broken c i ++ pick s (atStart (settled c Started) i ++ begun i p) (continued (settled c Started) i p)) ++ r)
+-- from the phase Started on: an end or a break, or else what comes after the packet in that phase; a repeat adds nothing
+orderly-happened : (c : Continuity) (s : Bool) (ph : Phase) (i : ℕ) (p : List ℕ) (r : List Event) → ph ≡ Started
+    → (phaseThen c s ph ≡ Started → Orderly r) → Orderly (happened c s ph i p ++ r)
 unfolding continued
-orderly-events false s i p r h = inr (inl refl)
-orderly-events true true i p r h = inl refl
-orderly-events true false i p r h = go (payloadThere p)
+orderly-happened GoesOn true ph i p r e h = rw e (inl refl)
+orderly-happened GoesOn false ph i p r e h = rw e (go (payloadThere p))
   where
     go : (t : Bool) → Orderly (pick t (event 3 i (contentAt p) (188 - contentAt p) ∷ []) [] ++ r)
-    go true = inr (inr (refl, h refl refl))
-    go false = h refl refl
-
-orderly-from : (c s : Bool) (ph : Phase) (i : ℕ) (p : List ℕ) (r : List Event) → ph ≡ Started → (c ≡ true → s ≡ false → Orderly r)
-    → Orderly ((broken c i ++ pick s (atStart (settled c ph) i ++ begun i p) (continued (settled c ph) i p)) ++ r)
-orderly-from c s ph i p r e h = rw e (orderly-events c s i p r h)
-
-phase-stays : (s : State) (p : List ℕ) → s .phase ≡ Started → continuous (s .last) p ≡ true → startFlag p ≡ false
-    → next s p .phase ≡ Started
-unfolding next phaseAfter
-phase-stays s p e c f = rw (f, c, e)
-
-phase-starts : (s : State) (p : List ℕ) → startFlag p ≡ true → next s p .phase ≡ Started
-unfolding next phaseAfter
-phase-starts s p f = rw f
+    go true = inr (inr (refl, h e))
+    go false = h e
+orderly-happened Repeats s ph i p r e h = h e
+orderly-happened Breaks s ph i p r e h = inr (inl refl)
 
 orderly-run : (i : ℕ) (s : State) (ps : List (List ℕ)) → s .phase ≡ Started → Orderly (run i s ps)
-unfolding run eventsOf
+unfolding run
 orderly-run i s [] e = tt
 orderly-run i s (p ∷ ps) e =
-    orderly-from (continuous (s .last) p) (startFlag p) (s .phase) i p (run (suc i) (next s p) ps) e
-    (λ c f. orderly-run (suc i) (next s p) ps (phase-stays s p e c f))
+    rw (events-are i s p) (orderly-happened (continuity s p) (startFlag p) (s .phase) i p (run (suc i) (next s p) ps) e
+    (λ f. orderly-run (suc i) (next s p) ps (phase-then s p ∙ f)))
 
 -- a begin is its packet's last event, and leaves the phase Started
 NotTwo : Event → Type 0
@@ -143,11 +129,6 @@ past : (a r : List Event) → All NotTwo a → Begun r → Begun (a ++ r)
 unfolding NotTwo
 past [] r h k = k
 past (e ∷ a) r h k = (λ z. absurd (h .0 z), past a r (h .1) k)
-
-not-broken : (c : Bool) (i : ℕ) → All NotTwo (broken c i)
-unfolding NotTwo
-not-broken true i = tt
-not-broken false i = (λ z. omega arith, tt)
 
 not-opened : (ph : Phase) (i : ℕ) → All NotTwo (atStart ph i)
 unfolding NotTwo
@@ -170,21 +151,21 @@ begun-begins i p r o k = go (payloadThere p) (headAccepted (drop (contentAt p) p
     go true false = k
     go false b = k
 
-begun-events : (c s : Bool) (ph : Phase) (i : ℕ) (p : List ℕ) (r : List Event) → (s ≡ true → Orderly r) → Begun r
-    → Begun ((broken c i ++ pick s (atStart ph i ++ begun i p) (continued ph i p)) ++ r)
-begun-events c true ph i p r h k =
-    rw (append-assoc (broken c i) (atStart ph i ++ begun i p) r, append-assoc (atStart ph i) (begun i p) r)
-    (past (broken c i) _ (not-broken c i) (past (atStart ph i) _ (not-opened ph i) (begun-begins i p r (h refl) k)))
-begun-events c false ph i p r h k =
-    rw (append-assoc (broken c i) (continued ph i p) r)
-    (past (broken c i) _ (not-broken c i) (past (continued ph i p) r (not-continued ph i p) k))
+begun-happened : (c : Continuity) (s : Bool) (ph : Phase) (i : ℕ) (p : List ℕ) (r : List Event) → (phaseThen c s ph ≡ Started → Orderly r) → Begun r
+    → Begun (happened c s ph i p ++ r)
+begun-happened GoesOn true ph i p r h k =
+    rw (append-assoc (atStart ph i) (begun i p) r) (past (atStart ph i) _ (not-opened ph i) (begun-begins i p r (h refl) k))
+begun-happened GoesOn false ph i p r h k = past (continued ph i p) r (not-continued ph i p) k
+begun-happened Repeats s ph i p r h k = k
+begun-happened Breaks true ph i p r h k = (λ z. absurd (omega arith), begun-begins i p r (h refl) k)
+begun-happened Breaks false ph i p r h k = (λ z. absurd (omega arith), k)
 
 begun-run : (i : ℕ) (s : State) (ps : List (List ℕ)) → Begun (run i s ps)
-unfolding run eventsOf
+unfolding run
 begun-run i s [] = tt
 begun-run i s (p ∷ ps) =
-    begun-events (continuous (s .last) p) (startFlag p) (settled (continuous (s .last) p) (s .phase)) i p (run (suc i) (next s p) ps)
-    (λ f. orderly-run (suc i) (next s p) ps (phase-starts s p f)) (begun-run (suc i) (next s p) ps)
+    rw (events-are i s p) (begun-happened (continuity s p) (startFlag p) (s .phase) i p (run (suc i) (next s p) ps)
+    (λ f. orderly-run (suc i) (next s p) ps (phase-then s p ∙ f)) (begun-run (suc i) (next s p) ps))
 
 follows-begin : (pre r : List Event) (b : Event) → Kind 2 b → Begun (pre ++ (b ∷ r)) → Orderly r
 follows-begin [] r b k h = h .0 k

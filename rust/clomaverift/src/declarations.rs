@@ -7,11 +7,11 @@
 #![allow(dead_code)]
 
 /// The symbol of the library's layout: its signatures, rows and numbers. An archive of another layout has another one.
-pub const ABI: &str = "cmv_abi_1";
+pub const ABI: &str = "cmv_abi_2";
 
 #[rustfmt::skip]
 extern "C" {
-    #[link_name = "cmv_abi_1"]
+    #[link_name = "cmv_abi_2"]
     pub static cmv_abi: u8;
     pub fn cmv_adaptation_field_discontinuity_indicator(buf: *const u8, buf_len: usize, value: *mut u64) -> u32;
     pub fn cmv_adaptation_field_random_access_indicator(buf: *const u8, buf_len: usize, value: *mut u64) -> u32;
@@ -77,6 +77,7 @@ extern "C" {
     pub fn cmv_clock_ref_into_u64(base: u64, extension: u16, number: *mut u64) -> u32;
     pub fn cmv_clock_ref_eq(base: u64, extension: u16, base2: u64, extension2: u16, same: *mut u64) -> u32;
     pub fn cmv_continuity_counter_new(count: u8, value: *mut u64) -> u32;
+    pub fn cmv_continuity_counter_compare(count: u8, last: u8, compared: *mut u64) -> u32;
     pub fn cmv_continuity_counter_follows(count: u8, other: u8, follows: *mut u64) -> u32;
     pub fn cmv_pid_new(pid: u16, value: *mut u64) -> u32;
     pub fn cmv_pid_try_from(pid: u16, value: *mut u64) -> u32;
@@ -137,16 +138,17 @@ extern "C" {
         place: *mut u64,
         length: *mut u64,
     ) -> u32;
-    pub fn cmv_machine_fresh(state: *mut [u64; 4]);
+    pub fn cmv_machine_fresh(state: *mut [u64; 6]);
+    pub fn cmv_machine_standard(state: *mut [u64; 6]);
     pub fn cmv_machine_step(
-        state: *mut [u64; 4],
+        state: *mut [u64; 6],
         packet: *const u8,
         packet_len: usize,
         log: *mut u8,
         log_len: usize,
     ) -> u32;
     pub fn cmv_machine_run(
-        state: *mut [u64; 4],
+        state: *mut [u64; 6],
         bytes: *const u8,
         bytes_len: usize,
         log: *mut u8,
