@@ -24,6 +24,7 @@ fn compare(plan: &Plan) -> Vec<Tally> {
     tallies.push(compare_pairs(plan));
     tallies.push(COUNTER.compare(0..=255));
     tallies.push(FOLLOWS.compare(every_pair_of_bytes()));
+    tallies.push(COMPARE.compare(every_pair_of_bytes()));
     tallies.push(PID.compare(0..=u16::MAX));
     tallies.push(PID_TRIED.compare(0..=u16::MAX));
     tallies.push(ADAPTATION_CONTROL.compare(0..=255));
@@ -265,6 +266,21 @@ pub const FOLLOWS: Function<(u8, u8), 1> = Function {
     library: |(count, other), outs| host::continuity_counter_follows(count, other, outs),
     answer: |(count, other)| match (counter_of(count), counter_of(other)) {
         (Some(counter), Some(other)) => Answer::value(counter.follows(other)),
+        _ => Answer::refused(14, &[]),
+    },
+};
+
+/// What the oracle says with yes and no: 0 the next, 1 the same, 2 neither. The program that replays the recorded answers does not know
+/// it, so none of its answers is recorded.
+pub const COMPARE: Function<(u8, u8), 1> = Function {
+    code: 0x1a,
+    name: "continuity_counter::compare",
+    must: &[0, 14],
+    library: |(count, last), outs| host::continuity_counter_compare(count, last, outs),
+    answer: |(count, last)| match (counter_of(count), counter_of(last)) {
+        (Some(counter), Some(last)) if counter.follows(last) => Answer::value(0_u64),
+        (Some(counter), Some(last)) if counter == last => Answer::value(1_u64),
+        (Some(_), Some(_)) => Answer::value(2_u64),
         _ => Answer::refused(14, &[]),
     },
 };

@@ -89,6 +89,7 @@ functions! {
     clock_ref_into_u64 = cmv_clock_ref_into_u64(base: u64, extension: u16 => number);
     clock_ref_eq = cmv_clock_ref_eq(base: u64, extension: u16, other_base: u64, other_extension: u16 => same);
     continuity_counter_new = cmv_continuity_counter_new(count: u8 => value);
+    continuity_counter_compare = cmv_continuity_counter_compare(count: u8, last: u8 => compared);
     continuity_counter_follows = cmv_continuity_counter_follows(count: u8, other: u8 => follows);
     pid_new = cmv_pid_new(pid: u16 => value);
     pid_try_from = cmv_pid_try_from(pid: u16 => value);

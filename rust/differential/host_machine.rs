@@ -1,6 +1,12 @@
-//! Safe calls of the entries of the event machine and of its log. A state is a row of four numbers that the caller keeps and lends.
+//! Safe calls of the entries of the event machine and of its log. A state is a row of six numbers that the caller keeps and lends.
 
-use crate::declarations::{cmv_log_entry_at, cmv_machine_fresh, cmv_machine_run, cmv_machine_step};
+use crate::declarations::{
+    cmv_log_entry_at, cmv_machine_fresh, cmv_machine_run, cmv_machine_standard, cmv_machine_step,
+};
+
+/// The numbers of the modes.
+pub const CRATE: u64 = 0;
+pub const STANDARD: u64 = 1;
 
 /// The numbers of the phases.
 pub const BEGIN: u64 = 0;
@@ -17,8 +23,11 @@ pub const MOST_TAKEN: u64 = u32::MAX as u64;
 #[derive(Clone, Copy, Debug)]
 #[repr(C)]
 pub struct State {
+    pub mode: u64,
     pub phase: u64,
     pub last: u64,
+    /// Whether the last packet may be repeated: 0 no, 1 once, 2 no more.
+    pub again: u64,
     /// The packets taken so far: the index of the next one.
     pub taken: u64,
     /// The next free byte of the log.
@@ -26,29 +35,37 @@ pub struct State {
 }
 
 impl State {
-    /// A state before any packet.
-    pub const FIRST: State = State { phase: BEGIN, last: NONE, taken: 0, place: 0 };
+    /// A state before any packet, in the crate's mode and in the standard mode.
+    pub const FIRST: State = State { mode: CRATE, phase: BEGIN, last: NONE, again: 0, taken: 0, place: 0 };
+    pub const FIRST_STANDARD: State = State { mode: STANDARD, ..State::FIRST };
 
     /// Whether the numbers stand for a state, beside a log of this length.
     pub fn stands(&self, log: usize) -> bool {
         let counter = self.last < 16 || self.last == NONE;
-        let sound = self.phase <= IGNORE_REST && counter && self.taken <= MOST_TAKEN;
+        let sound = self.mode <= STANDARD && self.phase <= IGNORE_REST && counter && self.again <= 2;
+        let sound = sound && self.taken <= MOST_TAKEN;
         sound && self.place <= log && self.place % 8 == 0
     }
 
-    pub fn numbers(&self) -> [u64; 4] {
-        [self.phase, self.last, self.taken, self.place as u64]
+    pub fn numbers(&self) -> [u64; 6] {
+        [self.mode, self.phase, self.last, self.again, self.taken, self.place as u64]
     }
 
-    fn row(&mut self) -> *mut [u64; 4] {
+    fn row(&mut self) -> *mut [u64; 6] {
         (self as *mut State).cast()
     }
 }
 
 /// Has the library fill a row with the state before any packet.
-pub fn fresh(row: &mut [u64; 4]) {
+pub fn fresh(row: &mut [u64; 6]) {
     // The row is live: all that the entry asks.
     unsafe { cmv_machine_fresh(row) }
+}
+
+/// The same in the standard mode.
+pub fn standard(row: &mut [u64; 6]) {
+    // As for `fresh`.
+    unsafe { cmv_machine_standard(row) }
 }
 
 /// Steps over a packet, and writes its events to a log. The library only reads the packet. It is taken as `&mut` here, so that the

@@ -1,15 +1,18 @@
-//! The event machine and its log: `PesPacketFilter::consume` of the oracle's pes.rs, a packet a step and many packets a run.
+//! The event machine and its log: `PesPacketFilter::consume` of the oracle's pes.rs, a packet a step and many packets a run. Compared
+//! is the crate's mode; single packets of the standard mode are judged here too, for standard.rs.
 
 use crate::answer::Answer;
 use crate::consumer::{phase_before, start, Oracle, SIZE};
 use crate::event::{decoded, Event, ENTRY};
-use crate::host_machine::{self, log_entry_at, State, BEGIN, IGNORE_REST, MOST_TAKEN, NONE, STARTED};
+use crate::host_machine::{self, log_entry_at, State};
+use crate::host_machine::{BEGIN, CRATE, IGNORE_REST, MOST_TAKEN, NONE, STANDARD, STARTED};
 use crate::kept::Keeps;
 use crate::lent::Lent;
 use crate::machine_stream;
 use crate::module::{Module, Plan};
 use crate::rng::Rng;
 use crate::rules::{self, Happened};
+use crate::standard_rules;
 use crate::tally::{hex, Given, Tally};
 use mpeg2ts_reader::packet::Packet;
 use mpeg2ts_reader::pes::PesHeader;
@@ -22,22 +25,23 @@ fn compare(plan: &Plan) -> Vec<Tally> {
     try_kept();
     let mut cases = Cases::new(plan.rng(1));
     cases.every_state();
-    cases.every_row();
-    cases.every_refusal();
+    cases.every_row(&MODES);
+    cases.every_refusal(CRATE);
+    cases.every_mode();
     let mut tallies = cases.into_tallies();
     let mut rng = plan.rng(2);
     tallies.extend(machine_stream::compare_random(plan.count, &mut plan.rng(3)));
     tallies.push(compare_entries(&mut rng));
-    tallies.push(compare_fresh(&mut rng));
+    tallies.push(compare_first("machine::new, its row", State::FIRST, host_machine::fresh, &mut rng));
     tallies
 }
 
 /// The state before any packet, in place of every row that is tried, and of random ones.
-fn compare_fresh(rng: &mut Rng) -> Tally {
-    let mut tally = Tally::new("machine::new, its row", &[0]);
-    let mut fill = |before| tally.call_filling(&State::FIRST.numbers(), host_machine::fresh, before);
-    every_row().for_each(|state| fill(state.numbers()));
-    (0..10_000).for_each(|_| fill([(); 4].map(|()| rng.next())));
+pub fn compare_first(name: &str, first: State, entry: fn(&mut [u64; 6]), rng: &mut Rng) -> Tally {
+    let mut tally = Tally::new(name, &[0]);
+    let mut fill = |before| tally.call_filling(&first.numbers(), entry, before);
+    every_row(&MODES).chain(every_row(&[STANDARD])).for_each(|state| fill(state.numbers()));
+    (0..10_000).for_each(|_| fill([(); 6].map(|()| rng.next())));
     tally
 }
 
@@ -130,9 +134,9 @@ impl Call<'_> {
 }
 
 /// The numbers of a state, and the out numbers of a run.
-fn with(state: State, [packets, ended]: [u64; 2]) -> [u64; 6] {
-    let [phase, last, taken, place] = state.numbers();
-    [phase, last, taken, place, packets, ended]
+fn with(state: State, [packets, ended]: [u64; 2]) -> [u64; 8] {
+    let [mode, phase, last, again, taken, place] = state.numbers();
+    [mode, phase, last, again, taken, place, packets, ended]
 }
 
 /// Done with these values, or refused.
@@ -148,7 +152,8 @@ fn text(packets: &[u8]) -> String {
     format!("{} bytes [{}]", packets.len(), hex(&packets[..packets.len().min(SIZE)]))
 }
 
-/// Whether a stream can bring the oracle to the state, or its numbers stand for none.
+/// Whether a stream can bring the oracle to the state, or its numbers stand for none. The oracle keeps no number that says whether a
+/// packet may be repeated: in the crate's mode nothing depends on it.
 fn can_be_reached(state: State) -> bool {
     state.last != NONE || !matches!(state.phase, STARTED | IGNORE_REST)
 }
@@ -165,6 +170,8 @@ pub struct Cases {
     told: Tallies,
     /// From the states that the oracle cannot be brought to.
     ruled: Tallies,
+    /// In the standard mode.
+    standard: Tallies,
     /// The rules that those are held against, in the other states.
     rules: Tally,
     pub rng: Rng,
@@ -188,6 +195,10 @@ impl Cases {
                 step: Tally::new("machine::step, by the rules: phases without a counter", &[0, 15]),
                 runs: Runs::new("machine::run, by the rules: phases without a counter", RUNS),
             },
+            standard: Tallies {
+                step: Tally::new("machine::step, standard mode", &[0, 1, 2, 14, 15, 16]),
+                runs: Runs::new("machine::run, standard mode, over a packet or none", RUNS),
+            },
             rules: Tally::of_oracle("machine::step, the rules against the Rust", &[0]),
             rng,
             packet: Lent::new(LONGEST_PACKET),
@@ -198,7 +209,12 @@ impl Cases {
     /// Steps over a packet and runs over its bytes, with a log of this length, and gives the state that is to be after the step.
     pub fn take(&mut self, state: State, packet: &[u8], room: usize) -> State {
         let judged = self.judged(state, packet, room);
-        let (number, events, after) = match &judged {
+        self.hold(state, packet, room, &judged)
+    }
+
+    /// The same with what the packet does, or the number of the refusal.
+    fn hold(&mut self, state: State, packet: &[u8], room: usize, judged: &Result<Happened, u32>) -> State {
+        let (number, events, after) = match judged {
             Ok(happened) => (0, &happened.events[..], next(state, happened)),
             Err(number) => (*number, &[][..], state),
         };
@@ -222,7 +238,11 @@ impl Cases {
     }
 
     fn call(&mut self, state: State, room: usize, compare: impl FnOnce(Call, &mut Tallies)) {
-        let tallies = if can_be_reached(state) { &mut self.told } else { &mut self.ruled };
+        let tallies = match state.mode {
+            STANDARD => &mut self.standard,
+            _ if can_be_reached(state) => &mut self.told,
+            _ => &mut self.ruled,
+        };
         let part = 0..self.packet.len();
         compare(Call { state, packets: &mut self.packet, part, log: &mut self.log, room }, tallies);
     }
@@ -251,12 +271,14 @@ impl Cases {
     /// What a packet does in a state: by the oracle, or by the rules where the oracle cannot be brought there. The phase after it is
     /// seen from what the oracle does with one more packet, whose counter follows.
     fn happened(&mut self, state: State, packet: &[u8]) -> Happened {
-        let ruled = rules::happened(state.phase, state.last, packet);
-        let Some(mut oracle) = Oracle::brought_to(state.phase, state.last) else { return ruled };
+        let ruled = by_rules(state, packet);
+        let Some(mut oracle) = oracle_in(state) else { return ruled };
         let events = oracle.consume(packet);
-        let last = Packet::new(packet).continuity_counter().count();
+        let seen = Packet::new(packet);
+        let last = seen.continuity_counter().count();
         let phase = phase_before(&oracle.consume(&start(last + 1))).expect("the packet's counter is the last");
-        let told = Happened { events, phase, last: last.into() };
+        let again = seen.adaptation_control().has_payload();
+        let told = Happened { events, phase, last: last.into(), again: again.into() };
         let input = || format!("{state:?}, {}", text(packet));
         self.rules.take_check(&Answer::done(&[]), told == ruled, input, || format!("{told:?}, {ruled:?}"));
         told
@@ -265,51 +287,76 @@ impl Cases {
     /// Every state with every control byte, with and without the start flag and a head, and lengths of the adaptation field around
     /// each bound; each with one more packet after it.
     fn every_state(&mut self) {
-        let phases = [BEGIN, STARTED, IGNORE_REST];
-        for (phase, last) in phases.into_iter().flat_map(|phase| (0..16).chain([NONE]).map(move |last| (phase, last))) {
+        for state in every_state(CRATE).filter(|state| state.again == 0) {
             for control in 0..=255 {
                 for length in LENGTHS {
                     for (flags, head) in [(0x00, HEAD), (0x00, NO_HEAD), (0x40, HEAD), (0x40, NO_HEAD)] {
-                        self.state(phase, last, [flags, control, length], head);
+                        self.state(state, [flags, control, length], head);
                     }
                 }
             }
         }
     }
 
-    fn state(&mut self, phase: u64, last: u64, [flags, control, length]: [u8; 3], head: [u8; 6]) {
+    /// A state with each number that says whether a packet may be repeated: it makes no difference.
+    fn state(&mut self, state: State, [flags, control, length]: [u8; 3], head: [u8; 6]) {
         let random = self.rng.next();
         let packet = packet([flags | random as u8 & 0xbf, (random >> 8) as u8, control, length], head);
         let place = ENTRY * (random >> 16 & 1) as usize;
-        let after = self.take(State { phase, last, taken: random >> 33, place }, &packet, LONGEST_LOG);
+        let state = State { taken: random >> 33, place, ..state };
+        let judged = self.judged(state, &packet, LONGEST_LOG);
+        let [after, ..] = [0, 1, 2].map(|again| self.hold(State { again, ..state }, &packet, LONGEST_LOG, &judged));
         self.take(after, &start(after.last as u8 + 1), LONGEST_LOG);
     }
 
     /// In every position of a row numbers that stand for something and numbers that stand for nothing, of which some have lower bits
-    /// that do; each row with every fault of a packet, as 1 and 2 come before 14.
-    fn every_row(&mut self) {
+    /// that do; each row also with a packet that is too short, with one without its sync byte and with none, as 1 and 2 come before 14.
+    pub fn every_row(&mut self, modes: &[u64]) {
         let [_, packet, ..] = by_events();
-        for packet in every_packet_fault(&packet) {
-            every_row().for_each(|state| {
-                self.take(state, &packet, LONGEST_LOG);
+        let lost = [&[0x46], &packet[1..]].concat();
+        for packet in [&packet[..], &packet[1..], &lost, &[]] {
+            every_row(modes).for_each(|state| {
+                self.take(state, packet, LONGEST_LOG);
             });
         }
     }
 
-    /// Every number for a phase with every number for a counter; and of each ground for a refusal several, with the others and
-    /// without: the numbers have an order.
-    fn every_refusal(&mut self) {
-        let packets = by_events();
+    /// Every number for a phase with every number for a counter, and every one that says whether a packet may be repeated; and of each
+    /// ground for a refusal several, with the others and without: the numbers have an order.
+    pub fn every_refusal(&mut self, mode: u64) {
+        const STATES: [(u64, u64, u64); 9] = [
+            (BEGIN, NONE, 0),
+            (STARTED, 15, 0),
+            (STARTED, 15, 1),
+            (STARTED, 15, 2),
+            (STARTED, 15, 3),
+            (STARTED, NONE, 1),
+            (IGNORE_REST, 16, 2),
+            (3, 0, 1),
+            (255, 255, 255),
+        ];
+        let (state, packets) = (State { mode, ..State::FIRST }, by_events());
         for (phase, last) in (0..=255).flat_map(|phase| (0..=255).map(move |last| (phase, last))) {
-            self.take(State { phase, last, taken: 0, place: 0 }, &packets[1], 2 * ENTRY);
+            self.take(State { phase, last, again: (phase + last) % 3, ..state }, &packets[1], 2 * ENTRY);
+        }
+        for (again, packet) in (0..=255).flat_map(|again| packets.map(|packet| (again, packet))) {
+            self.take(State { phase: STARTED, last: 15, again, ..state }, &packet, 2 * ENTRY);
         }
         for taken in [0, MOST_TAKEN - 1, MOST_TAKEN] {
-            for (phase, last) in [(BEGIN, NONE), (STARTED, 15), (STARTED, NONE), (IGNORE_REST, 16), (3, 0), (255, 255)]
-            {
+            for (phase, last, again) in STATES {
                 for packet in packets.iter().flat_map(every_packet_fault) {
-                    self.every_log(State { phase, last, taken, place: 0 }, packet.as_slice());
+                    self.every_log(State { phase, last, again, taken, ..state }, packet.as_slice());
                 }
             }
+        }
+    }
+
+    /// Every number for a mode but the standard one's, with every one that says whether a packet may be repeated.
+    fn every_mode(&mut self) {
+        let [_, packet, ..] = by_events();
+        let modes = (0..=255).filter(|mode| *mode != STANDARD);
+        for (mode, again) in modes.flat_map(|mode| (0..=255).map(move |again| (mode, again))) {
+            self.take(State { mode, again, ..State::FIRST }, &packet, 2 * ENTRY);
         }
     }
 
@@ -323,17 +370,53 @@ impl Cases {
         }
     }
 
+    /// Those of the crate's mode.
     fn into_tallies(self) -> Vec<Tally> {
         let both = [self.told, self.ruled].into_iter();
-        let counted = both.flat_map(|Tallies { step, runs }| [step].into_iter().chain(runs.into_tallies()));
-        counted.chain([self.rules]).collect()
+        both.flat_map(Tallies::into_tallies).chain([self.rules]).collect()
+    }
+
+    /// Those of the standard mode.
+    pub fn into_standard_tallies(self) -> Vec<Tally> {
+        self.standard.into_tallies().collect()
     }
 }
 
-/// The state after a packet that does this.
-fn next(state: State, happened: &Happened) -> State {
-    let Happened { events, phase, last } = happened;
-    State { phase: *phase, last: *last, taken: state.taken + 1, place: state.place + events.room() }
+impl Tallies {
+    fn into_tallies(self) -> impl Iterator<Item = Tally> {
+        [self.step].into_iter().chain(self.runs.into_tallies())
+    }
+}
+
+/// The oracle in a state of the crate's mode, where packets can bring it there.
+pub fn oracle_in(state: State) -> Option<Oracle> {
+    match state.mode {
+        CRATE => Oracle::brought_to(state.phase, state.last),
+        _ => None,
+    }
+}
+
+/// What a packet does in a state, by the rules of its mode.
+pub fn by_rules(state: State, packet: &[u8]) -> Happened {
+    let State { mode, phase, last, again, .. } = state;
+    match mode {
+        STANDARD => standard_rules::happened(phase, last, again, packet),
+        _ => rules::happened(phase, last, packet),
+    }
+}
+
+/// The state after a packet that does this. The mode is the caller's to change.
+pub fn next(state: State, happened: &Happened) -> State {
+    let Happened { events, phase, last, again } = *happened;
+    State { phase, last, again, taken: state.taken + 1, place: state.place + events.room(), ..state }
+}
+
+/// Every phase with every counter or none, and with every number that says whether a packet may be repeated: also those that no
+/// stream leads to.
+pub fn every_state(mode: u64) -> impl Iterator<Item = State> {
+    let states = [BEGIN, STARTED, IGNORE_REST].into_iter().map(move |phase| State { mode, phase, ..State::FIRST });
+    let states = states.flat_map(|state| (0..16).chain([NONE]).map(move |last| State { last, ..state }));
+    states.flat_map(|state| (0..=2).map(move |again| State { again, ..state }))
 }
 
 /// What a run over a packet or none is to tell, where a step over it gives this number; or the number of the refusal.
@@ -351,15 +434,19 @@ fn ran(state: State, packets: &[u8], room: usize, number: u32) -> Result<Ran, u3
     })
 }
 
-/// Numbers of each position of a row.
+/// Numbers of each position of a row. The number of the standard mode, which is not among those of modes, has its own comparison.
+const MODES: [u64; 5] = [CRATE, 2, 256, 1 + (1 << 32), u64::MAX];
+const AGAIN: [u64; 6] = [0, 1, 2, 3, 1 + (1 << 32), u64::MAX];
 const PHASES: [u64; 10] = [0, 1, 2, 3, 255, 256, 1 << 32, 1 + (1 << 32), 1 << 63, u64::MAX];
 const COUNTERS: [u64; 11] = [0, 15, 16, 254, 255, 256, 1 << 32, 15 + (1 << 32), 255 + (1 << 32), 1 << 63, u64::MAX];
 const TAKEN: [u64; 7] = [0, MOST_TAKEN - 1, MOST_TAKEN, MOST_TAKEN + 1, 1 + (1 << 32), 1 << 63, u64::MAX];
 const PLACES: [usize; 8] = [0, ENTRY, ENTRY - 1, LONGEST_LOG + ENTRY, 1 << 32, 1 << 63, usize::MAX - 7, usize::MAX];
 
-/// Each of those with each other.
-fn every_row() -> impl Iterator<Item = State> {
-    let states = PHASES.into_iter().flat_map(|phase| COUNTERS.map(|last| State { phase, last, ..State::FIRST }));
+/// Each of those with each other, and with these modes.
+fn every_row(modes: &[u64]) -> impl Iterator<Item = State> + '_ {
+    let states = modes.iter().flat_map(|&mode| AGAIN.map(|again| State { mode, again, ..State::FIRST }));
+    let states = states.flat_map(|state| PHASES.map(|phase| State { phase, ..state }));
+    let states = states.flat_map(|state| COUNTERS.map(|last| State { last, ..state }));
     let states = states.flat_map(|state| TAKEN.map(|taken| State { taken, ..state }));
     states.flat_map(|state| PLACES.map(|place| State { place, ..state }))
 }
@@ -370,11 +457,11 @@ fn every_row() -> impl Iterator<Item = State> {
 const LENGTHS: [u8; 10] = [0, 1, 100, 177, 178, 181, 182, 183, 184, 255];
 
 /// What a payload begins with: a head, and one that is nearly a head.
-const HEAD: [u8; 6] = [0x00, 0x00, 0x01, 0xe0, 0x00, 0x00];
-const NO_HEAD: [u8; 6] = [0x00, 0x00, 0x00, 0xe0, 0x00, 0x00];
+pub const HEAD: [u8; 6] = [0x00, 0x00, 0x01, 0xe0, 0x00, 0x00];
+pub const NO_HEAD: [u8; 6] = [0x00, 0x00, 0x00, 0xe0, 0x00, 0x00];
 
 /// A packet with these four bytes after the sync byte, and with what its payload begins with, as far as it has one.
-fn packet(header: [u8; 4], head: [u8; 6]) -> [u8; SIZE] {
+pub fn packet(header: [u8; 4], head: [u8; 6]) -> [u8; SIZE] {
     let mut packet = [0xff; SIZE];
     packet[0] = Packet::SYNC_BYTE;
     packet[1..5].copy_from_slice(&header);
@@ -397,13 +484,16 @@ pub fn payload_at(packet: &[u8]) -> usize {
     }
 }
 
-/// Packets with no event, with one and with two, and one that goes on with a unit, in a state with no last counter or with 15.
-fn by_events() -> [[u8; SIZE]; 4] {
+/// Packets with no event, with one and with two, and one that goes on with a unit, in a state with no last counter or with 15. After
+/// 15 the last two are breaks, of one event and of two, or repeats.
+fn by_events() -> [[u8; SIZE]; 6] {
     [
         packet([0x00, 0x00, 0x0f, 0xff], NO_HEAD),
         packet([0x40, 0x00, 0x10, 0xff], NO_HEAD),
         packet([0x40, 0x00, 0x10, 0xff], HEAD),
         packet([0x00, 0x00, 0x10, 0xff], NO_HEAD),
+        packet([0x00, 0x00, 0x1f, 0xff], NO_HEAD),
+        packet([0x40, 0x00, 0x1f, 0xff], HEAD),
     ]
 }
 

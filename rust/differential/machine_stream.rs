@@ -1,12 +1,15 @@
-//! Streams through the event machine, made at random and real: every event, every state and every byte of the log.
+//! Streams through the event machine, made at random and real: every event, every state and every byte of the log. In the standard
+//! mode they are judged by its rules, for standard_stream.rs.
 
 use crate::consumer::{Oracle, SIZE};
 use crate::event::{self, ENTRY};
 use crate::files::Files;
 use crate::host_machine::{log_entry_at, State, IGNORE_REST, MOST_TAKEN, STARTED};
 use crate::lent::Lent;
-use crate::machine::{entry_answer, set_head, Call, Ran, Runs};
+use crate::machine::{by_rules, entry_answer, next, oracle_in, set_head, Call, Ran, Runs};
 use crate::rng::Rng;
+use crate::rules::Happened;
+use crate::standard_stream::Standard;
 use crate::tally::{grouped, report, Tally};
 use mpeg2ts_reader::packet::Packet;
 use std::time::Instant;
@@ -22,7 +25,7 @@ const ALWAYS: usize = 100_000;
 
 /// Compares on random streams of so many packets more than are always compared. The first runs out of indices.
 pub fn compare_random(count: u64, rng: &mut Rng) -> Vec<Tally> {
-    let mut walk = Walk::new(MOST, [&[0, 15, 16], &[0, 1, 14], &[0, 2, 15, 16], &[0]]);
+    let mut walk = Walk::new("streams", MOST, [&[0, 15, 16], &[0, 1, 14], &[0, 2, 15, 16], &[0]]);
     let mut packets = vec![0; MOST * SIZE];
     rng.fill(&mut packets);
     make_stream(&mut packets, rng);
@@ -32,25 +35,34 @@ pub fn compare_random(count: u64, rng: &mut Rng) -> Vec<Tally> {
         let stream = &mut packets[..SIZE * (1 + rng.below(MOST)).min(left)];
         left -= stream.len() / SIZE;
         make_stream(stream, rng);
-        let first = State { taken: random_taken(stream.len() / SIZE, rng), ..State::FIRST };
-        walk.stream(stream, first, rng);
+        let (again, taken) = (rng.below(3) as u64, random_taken(stream.len() / SIZE, rng));
+        walk.stream(stream, State { again, taken, ..State::FIRST }, rng);
     }
+    walk.say_taken("machine");
     walk.into_tallies()
 }
 
-/// Compares on each file, a machine for each PID, and on a damaged copy of it. Prints a line for each file, each copy and each
-/// function, and for all.
+/// Compares on each file, a machine for each PID, and on a damaged copy of it; in the crate's mode, and in the standard mode with each
+/// packet sent once and twice. Prints a line for each file, each copy and each function, and for all.
 pub fn compare_files(files: &[String]) -> bool {
     let began = Instant::now();
     let Some(files) = Files::read(files) else { return false };
-    let mut walk = Walk::new(files.most(), [&[]; 4]);
-    files.each(|stream, rng| walk.stream(stream, State::FIRST, rng));
-    report("events", began, &walk.into_tallies())
+    let mut walk = Walk::new("streams", files.most(), [&[]; 4]);
+    let mut standard = Standard::new(2 * files.most(), [&[]; 4]);
+    files.each(|stream, rng| {
+        walk.stream(stream, State::FIRST, rng);
+        standard.recording(stream, rng);
+    });
+    walk.say_taken("machine");
+    standard.say_taken();
+    let mut tallies = walk.into_tallies();
+    tallies.extend(standard.into_tallies());
+    report("events", began, &tallies)
 }
 
-// ---- What the oracle tells of a stream.
+// ---- What the judge of its mode tells of a stream.
 
-struct Told {
+pub struct Told {
     first: State,
     /// The state after each packet.
     after: Vec<State>,
@@ -59,39 +71,58 @@ struct Told {
 }
 
 impl Told {
-    /// Of as many packets as there are indices left.
-    fn new(first: State, packets: &[u8]) -> Told {
+    /// By the oracle; by the rules in the standard mode, and where the oracle cannot be brought to the first state.
+    pub fn new(first: State, packets: &[u8]) -> Told {
+        let mut oracle = oracle_in(first);
+        Told::by(first, packets, |state, packet| match &mut oracle {
+            Some(oracle) => heard(oracle, state, packet),
+            None => by_rules(state, packet),
+        })
+    }
+
+    /// By what each packet does in the state before it. Of as many packets as there are indices left.
+    pub fn by(first: State, packets: &[u8], mut happened: impl FnMut(State, &[u8]) -> Happened) -> Told {
         let count = packets.len() / SIZE;
         let mut told = Told { first, after: Vec::with_capacity(count), log: Vec::with_capacity(2 * ENTRY * count) };
-        let mut oracle = Oracle::new();
         let mut state = first;
-        for bytes in packets.chunks_exact(SIZE).take((MOST_TAKEN - first.taken) as usize) {
-            let events = oracle.consume(bytes);
-            events.iter().for_each(|event| told.log.extend_from_slice(&event.entry(state.taken as u32)));
-            let packet = Packet::new(bytes);
-            // The oracle keeps its phase to itself. It is what a break and the start flag make it; single steps look for it.
-            if events.iter().any(|event| event.kind == event::ERROR) {
-                state.phase = IGNORE_REST;
-            }
-            if packet.payload_unit_start_indicator() {
-                state.phase = STARTED;
-            }
-            state.last = packet.continuity_counter().count().into();
-            state.taken += 1;
-            state.place = told.log.len();
+        for packet in packets.chunks_exact(SIZE).take((MOST_TAKEN - first.taken) as usize) {
+            let happened = happened(state, packet);
+            happened.events.iter().for_each(|event| told.log.extend_from_slice(&event.entry(state.taken as u32)));
+            state = next(state, &happened);
             told.after.push(state);
         }
         told
     }
 
-    fn before(&self, nth: usize) -> State {
+    /// How many packets it is of.
+    pub fn count(&self) -> usize {
+        self.after.len()
+    }
+
+    /// The state before a packet, or after the last one.
+    pub fn before(&self, nth: usize) -> State {
         nth.checked_sub(1).map_or(self.first, |before| self.after[before])
     }
 
     /// The entries of some packets.
-    fn entries(&self, from: usize, count: usize) -> &[u8] {
+    pub fn entries(&self, from: usize, count: usize) -> &[u8] {
         &self.log[self.before(from).place..self.before(from + count).place]
     }
+}
+
+/// What the oracle does with the next packet. It keeps its phase to itself. It is what a break and the start flag make it; single steps
+/// look for it.
+fn heard(oracle: &mut Oracle, state: State, packet: &[u8]) -> Happened {
+    let (events, packet) = (oracle.consume(packet), Packet::new(packet));
+    let phase = if packet.payload_unit_start_indicator() {
+        STARTED
+    } else if events.iter().any(|event| event.kind == event::ERROR) {
+        IGNORE_REST
+    } else {
+        state.phase
+    };
+    let (last, again) = (packet.continuity_counter().count(), packet.adaptation_control().has_payload());
+    Happened { events, phase, last: last.into(), again: again.into() }
 }
 
 // ---- A stream, by steps and by runs.
@@ -121,16 +152,16 @@ struct Piece {
 }
 
 impl Walk {
-    /// Room for streams of so many packets; the numbers that have to be among the answers, and after those of runs the numbers that
-    /// have to be among their ends.
-    pub fn new(most: usize, [step, run, ended, entry_at]: [&'static [usize]; 4]) -> Walk {
+    /// The name of what is gone over; room for streams of so many packets; the numbers that have to be among the answers, and after
+    /// those of runs the numbers that have to be among their ends.
+    pub fn new(name: &str, most: usize, [step, run, ended, entry_at]: [&'static [usize]; 4]) -> Walk {
         let log = 2 * ENTRY * most + STEP_LOG;
         let mut filling = vec![0; log];
         Rng::new(most as u64).fill(&mut filling);
         Walk {
-            step: Tally::new("machine::step, streams", step),
-            runs: Runs::new("machine::run, streams", [run, ended]),
-            entry_at: Tally::new("log::entry_at, streams", entry_at),
+            step: Tally::new(&format!("machine::step, {name}"), step),
+            runs: Runs::new(&format!("machine::run, {name}"), [run, ended]),
+            entry_at: Tally::new(&format!("log::entry_at, {name}"), entry_at),
             packets: Lent::new(most * SIZE),
             step_log: Lent::new(STEP_LOG),
             log: Lent::new(log),
@@ -139,13 +170,29 @@ impl Walk {
         }
     }
 
-    pub fn stream(&mut self, packets: &[u8], first: State, rng: &mut Rng) {
+    /// Goes over a stream, and gives what it is held against.
+    pub fn stream(&mut self, packets: &[u8], first: State, rng: &mut Rng) -> Told {
         let told = Told::new(first, packets);
+        self.told(packets, &told, rng);
+        told
+    }
+
+    /// Goes over a stream of which this is told.
+    pub fn told(&mut self, packets: &[u8], told: &Told, rng: &mut Rng) {
         self.packets.set(packets, rng.next() as u8);
-        self.steps(&told, rng);
-        self.runs(&told, rng);
-        self.entries(&told);
-        self.taken += told.after.len() as u64;
+        self.steps(told, rng);
+        self.runs(told, rng);
+        self.entries(told);
+        self.taken += told.count() as u64;
+    }
+
+    /// The same by one run, where no index and no room is lacking.
+    pub fn one_run(&mut self, packets: &[u8], told: &Told, rng: &mut Rng) {
+        self.packets.set(packets, rng.next() as u8);
+        self.log.set(&self.filling[..told.log.len()], rng.next() as u8);
+        let (count, room) = (self.count(), self.log.len());
+        let whole = Piece { from: 0, count, tail: 0, state: told.first, lost: None, room };
+        self.run(told, &whole, Ok(Ran { packets: count, ended: 0 }));
     }
 
     fn count(&self) -> usize {
@@ -233,9 +280,17 @@ impl Walk {
         }
     }
 
-    /// Says how many packets were taken.
-    fn into_tallies(self) -> Vec<Tally> {
-        println!("machine: {} packets of streams taken, each by a step and again by a run", grouped(self.taken));
+    /// How many packets were taken.
+    pub fn taken(&self) -> u64 {
+        self.taken
+    }
+
+    /// Prints that, for a module.
+    pub fn say_taken(&self, module: &str) {
+        println!("{module}: {} packets of streams taken, each by a step and again by a run", grouped(self.taken));
+    }
+
+    pub fn into_tallies(self) -> Vec<Tally> {
         [self.step].into_iter().chain(self.runs.into_tallies()).chain([self.entry_at]).collect()
     }
 }
@@ -271,13 +326,17 @@ impl Piece {
 /// A state that is none, by one of its numbers. Of some the lower bits are those of the state.
 fn no_state(state: State, rng: &mut Rng) -> State {
     let far = 1 << [8, 16, 32, 63][rng.below(4)];
-    match rng.below(7) {
-        0 => State { phase: 3 + rng.below(253) as u64, ..state },
-        1 => State { phase: state.phase + far, ..state },
-        2 => State { last: 16 + rng.below(239) as u64, ..state },
-        3 => State { last: state.last + far, ..state },
-        4 => State { taken: state.taken + (1 << 32), ..state },
-        5 => State { place: state.place + 1 + rng.below(7), ..state },
+    match rng.below(11) {
+        0 => State { mode: 2 + rng.below(254) as u64, ..state },
+        1 => State { mode: state.mode + far, ..state },
+        2 => State { phase: 3 + rng.below(253) as u64, ..state },
+        3 => State { phase: state.phase + far, ..state },
+        4 => State { last: 16 + rng.below(239) as u64, ..state },
+        5 => State { last: state.last + far, ..state },
+        6 => State { again: 3 + rng.below(253) as u64, ..state },
+        7 => State { again: state.again + far, ..state },
+        8 => State { taken: state.taken + (1 << 32), ..state },
+        9 => State { place: state.place + 1 + rng.below(7), ..state },
         _ => State { place: usize::MAX - 7, ..state },
     }
 }
@@ -291,23 +350,25 @@ const LENGTHS: [u8; 8] = [0, 1, 177, 178, 182, 183, 184, 255];
 
 /// Gives each packet a header of its own, and most of those with the start flag a head; the other bytes stay.
 pub fn make_stream(packets: &mut [u8], rng: &mut Rng) {
-    let mut last = 0;
-    for packet in packets.chunks_exact_mut(SIZE) {
-        let (random, choice) = (rng.next().to_le_bytes(), rng.next());
-        let start = if choice & 3 == 0 { 0x40 } else { 0 };
-        let control = random_control(random[2], choice >> 2);
-        let counter = random_counter(last, control, random[3], choice >> 8);
-        last = counter;
-        packet[0] = Packet::SYNC_BYTE;
-        packet[1] = start | random[0] & 0xbf;
-        packet[2] = random[1];
-        packet[3] = control & 0xf0 | counter;
-        packet[4] = random_length(random[4], choice >> 16);
-        let [a, b, c] = HEADS[(choice >> 24 & 7) as usize];
-        if start != 0 {
-            set_head(packet, [a, b, c, random[5], random[6], random[7]]);
-        }
+    packets.chunks_exact_mut(SIZE).fold(0, |last, packet| make_packet(packet, last, rng));
+}
+
+/// The same of one packet, after one with this counter. Gives its counter.
+pub fn make_packet(packet: &mut [u8], last: u8, rng: &mut Rng) -> u8 {
+    let (random, choice) = (rng.next().to_le_bytes(), rng.next());
+    let start = if choice & 3 == 0 { 0x40 } else { 0 };
+    let control = random_control(random[2], choice >> 2);
+    let counter = random_counter(last, control, random[3], choice >> 8);
+    packet[0] = Packet::SYNC_BYTE;
+    packet[1] = start | random[0] & 0xbf;
+    packet[2] = random[1];
+    packet[3] = control & 0xf0 | counter;
+    packet[4] = random_length(random[4], choice >> 16);
+    let [a, b, c] = HEADS[(choice >> 24 & 7) as usize];
+    if start != 0 {
+        set_head(packet, [a, b, c, random[5], random[6], random[7]]);
     }
+    counter
 }
 
 /// Of sixteen packets, one with any control bits, one with an adaptation field only, one with neither, four with both.
@@ -343,7 +404,7 @@ fn random_length(random: u8, choice: u64) -> u8 {
 }
 
 /// Mostly few; of four streams one has the largest index at its end or runs out of them.
-fn random_taken(count: usize, rng: &mut Rng) -> u64 {
+pub fn random_taken(count: usize, rng: &mut Rng) -> u64 {
     match rng.below(8) {
         0 => MOST_TAKEN - count as u64,
         1 => MOST_TAKEN - rng.below(count + 1) as u64,

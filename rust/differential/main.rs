@@ -4,7 +4,8 @@
 //!                                  compares; N random answers a module, or K times as many as each module has set
 //!     differential record DIR      writes a fixed sample of the oracle's answers to DIR/stdin and DIR/stdout
 //!     differential stream FILE..   compares on every packet of transport streams
-//!     differential events FILE..   compares the events of transport streams, a machine for each PID, and of damaged copies
+//!     differential events FILE..   compares the events of transport streams, a machine for each PID, and of damaged copies; in the
+//!                                  standard mode also with each packet sent twice
 //!     differential gather FILE..   compares what is gathered from transport streams, a store for each PID, and from damaged copies
 //!     differential fields FILE     lists what the library reads of each packet of a transport stream
 //!     differential differences [FILE]
@@ -55,6 +56,9 @@ mod record;
 mod rng;
 mod rules;
 mod slice;
+mod standard;
+mod standard_rules;
+mod standard_stream;
 mod stream;
 mod tally;
 mod timestamp;
@@ -70,7 +74,7 @@ use std::time::Instant;
 use tally::{grouped, report, total, Tally};
 
 /// The modules, in the order of their codes.
-const MODULES: [Module; 9] = [
+const MODULES: [Module; 10] = [
     timestamp::MODULE,
     control::MODULE,
     packet::MODULE,
@@ -78,6 +82,7 @@ const MODULES: [Module; 9] = [
     head::MODULE,
     contents::MODULE,
     machine::MODULE,
+    standard::MODULE,
     writer::MODULE,
     gather::MODULE,
 ];

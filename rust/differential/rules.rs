@@ -1,20 +1,28 @@
 //! The machine's rules as the request has them, written anew: for the two states that no stream brings the oracle to, which are a
-//! phase other than Begin with no last counter. They are held against the oracle in all other states.
+//! phase other than Begin with no last counter. They are held against the oracle in all other states. Those of events are the
+//! standard mode's too (standard_rules.rs).
 
 use crate::event::{self, Event, Events};
 use crate::host_machine::{BEGIN, IGNORE_REST, NONE, STARTED};
 
-/// What a packet does: its events, and the phase and the counter after it.
+/// What a packet does: its events; the phase and the counter after it, and whether it may be repeated.
 #[derive(Debug, PartialEq)]
 pub struct Happened {
     pub events: Events,
     pub phase: u64,
     pub last: u64,
+    pub again: u64,
 }
 
+/// In the crate's mode.
 pub fn happened(phase: u64, last: u64, packet: &[u8]) -> Happened {
-    let (start, counter) = (packet[1] & 0x40 != 0, u64::from(packet[3] & 0x0f));
-    let continuous = last == NONE || counter == (last + u64::from(packet[3] >> 4 & 1)) % 16;
+    let due = (last + u64::from(has_payload_flag(packet))) % 16;
+    accepted(phase, last == NONE || counter(packet) == due, packet)
+}
+
+/// In both modes, where the packet is not dropped: its counter is continuous, or there is a break.
+pub fn accepted(phase: u64, continuous: bool, packet: &[u8]) -> Happened {
+    let start = packet[1] & 0x40 != 0;
     let phase = if continuous { phase } else { IGNORE_REST };
     let mut events = Events::default();
     match (start, phase) {
@@ -31,10 +39,19 @@ pub fn happened(phase: u64, last: u64, packet: &[u8]) -> Happened {
             _ => (),
         }
     }
-    Happened { events, phase: if start { STARTED } else { phase }, last: counter }
+    let phase = if start { STARTED } else { phase };
+    Happened { events, phase, last: counter(packet), again: has_payload_flag(packet).into() }
+}
+
+pub fn counter(packet: &[u8]) -> u64 {
+    u64::from(packet[3] & 0x0f)
+}
+
+pub fn has_payload_flag(packet: &[u8]) -> bool {
+    packet[3] & 0x10 != 0
 }
 
 fn payload(packet: &[u8]) -> Option<&[u8]> {
     let at = if packet[3] & 0x20 != 0 { 5 + usize::from(packet[4]) } else { 4 };
-    (packet[3] & 0x10 != 0 && at < packet.len()).then(|| &packet[at..])
+    (has_payload_flag(packet) && at < packet.len()).then(|| &packet[at..])
 }

@@ -4,7 +4,7 @@ use crate::answer::Answer;
 use crate::consumer::{Oracle, SIZE};
 use crate::event::{self, Event, ENTRY};
 use crate::gatherer::Gatherer;
-use crate::host_machine::{State, BEGIN, IGNORE_REST, NONE, STARTED};
+use crate::host_machine::{State, BEGIN, CRATE, IGNORE_REST, NONE, STANDARD, STARTED};
 use crate::host_writer::Unit;
 use crate::lent::Lent;
 use crate::machine::{Call, Ran, Runs};
@@ -101,7 +101,10 @@ impl ReadBack {
             [BEGIN, STARTED, IGNORE_REST].into_iter().flat_map(|phase| [(phase, NONE), (phase, before)])
         {
             self.read_events(&mut written, phase, last);
-            self.run(&mut written, State { phase, last, taken: rng.next() >> 33, place: 0 }, rng);
+            for mode in [CRATE, STANDARD] {
+                let (again, taken) = (rng.below(3) as u64, rng.next() >> 33);
+                self.run(&mut written, State { mode, phase, last, again, taken, place: 0 }, rng);
+            }
         }
     }
 
@@ -143,9 +146,10 @@ impl ReadBack {
         self.events.take_check(&Answer::done(&[]), odd.is_none(), input, || format!("others at packet {odd:?}"));
     }
 
-    /// The library's machine writes these events to its log.
+    /// The library's machine writes these events to its log, in both modes: no packet repeats another, and none has the discontinuity
+    /// bit. Each has a payload, so that after the last a repeat may come.
     fn run(&mut self, written: &mut Written, state: State, rng: &mut Rng) {
-        let mut after = State { phase: STARTED, taken: state.taken + written.count as u64, ..state };
+        let mut after = State { phase: STARTED, again: 1, taken: state.taken + written.count as u64, ..state };
         after.last = (u64::from(written.unit.counter) + written.count as u64 - 1) % 16;
         let room = ENTRY * (written.count + 1) + rng.below(ENTRY);
         self.log.set(&self.filling[..room], rng.next() as u8);

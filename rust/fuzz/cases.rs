@@ -4,11 +4,12 @@
 use crate::consumer::SIZE;
 use crate::event::Event;
 use crate::host_gather::Gathering;
-use crate::host_machine::State;
+use crate::host_machine::{State, NONE, STANDARD};
 use crate::host_writer::Unit;
 use crate::input::Input;
 use crate::reading::Readings;
 use crate::rng::Rng;
+use crate::standard_stream::Standard;
 use crate::writer::Case;
 use crate::{adaptation, contents, control, gather, gather_stream, head, machine, machine_stream, packet, stream};
 use crate::{timestamp, writer};
@@ -23,6 +24,7 @@ pub struct Cases {
     readings: [Readings; 7],
     readers: stream::Walk,
     events: machine_stream::Walk,
+    standard_events: Standard,
     gathered: gather_stream::Walk,
     steps: machine::Cases,
     entries: machine::Entries,
@@ -44,7 +46,8 @@ impl Cases {
                 of(&contents::READINGS).and_row(&contents::ROW),
             ],
             readers: stream::Walk::new(),
-            events: machine_stream::Walk::new(PACKETS, [&[]; 4]),
+            events: machine_stream::Walk::new("streams", PACKETS, [&[]; 4]),
+            standard_events: Standard::new(PACKETS, [&[]; 4]),
             gathered: gather_stream::Walk::new(PACKETS, [&[]; 3]),
             steps: machine::Cases::new(Rng::new(1)),
             entries: machine::Entries::new(),
@@ -75,13 +78,17 @@ impl Cases {
         packets.zip(0..).for_each(|(packet, guard)| self.readers.packet(packet, guard));
     }
 
-    /// Whole packets of one stream, through the machine and the store. They are given their sync bytes: the walk takes some away.
+    /// Whole packets of one stream, through the machine in one of its modes, from any state, and the store. They are given their sync
+    /// bytes: the walk takes some away.
     fn stream(&mut self, mut input: Input, mut rng: Rng) {
-        let first = State { taken: input.word().into(), ..State::FIRST };
+        let first = state(&mut input);
         let mut packets = input.rest(PACKETS * SIZE).to_vec();
         packets.truncate(packets.len() / SIZE * SIZE);
         packets.iter_mut().step_by(SIZE).for_each(|byte| *byte = Packet::SYNC_BYTE);
-        self.events.stream(&packets, first, &mut rng);
+        match first.mode {
+            STANDARD => self.standard_events.stream_and_twice(&packets, first, &mut rng),
+            _ => _ = self.events.stream(&packets, first, &mut rng),
+        }
         self.gathered.stream(&packets, &mut rng);
     }
 
@@ -93,10 +100,11 @@ impl Cases {
 
     /// One packet with any row for a state and a log of any length, by a step and by a run.
     fn step(&mut self, mut input: Input, rng: Rng) {
-        let (phase, last, taken, place) = (input.long(), input.long(), input.long(), input.long() as usize);
+        let [mode, phase, last, again, taken, place] = [(); 6].map(|()| input.long());
+        let state = State { mode, phase, last, again, taken, place: place as usize };
         let room = usize::from(input.byte()) % (machine::LONGEST_LOG + 1);
         self.steps.rng = rng;
-        self.steps.take(State { phase, last, taken, place }, input.rest(machine::LONGEST_PACKET), room);
+        self.steps.take(state, input.rest(machine::LONGEST_PACKET), room);
     }
 
     /// One event with any row for a state and a store of any length.
@@ -129,6 +137,14 @@ impl Cases {
     }
 }
 
+/// A state by a byte for each number but the last two: the mode, the phase, the counter, with any byte above 15 for none, and whether
+/// the packet before may be repeated; then the packets taken. The log is empty.
+fn state(input: &mut Input) -> State {
+    let [mode, phase, last, again] = [(); 4].map(|()| u64::from(input.byte()));
+    let last = if last < 16 { last } else { NONE };
+    State { mode: mode % 2, phase: phase % 3, last, again: again % 3, taken: input.word().into(), place: 0 }
+}
+
 /// A unit by its row.
 fn unit(input: &mut Input) -> Unit {
     let mut unit = Unit { pid: input.short(), counter: input.byte(), ..Unit::default() };
@@ -147,6 +163,7 @@ fn numbers(mut input: Input) {
     control::EQ.compare([((a, b), (c, d))].into_iter());
     control::COUNTER.compare([byte].into_iter());
     control::FOLLOWS.compare([(byte, other)].into_iter());
+    control::COMPARE.compare([(byte, other)].into_iter());
     control::PID.compare([b].into_iter());
     control::PID_TRIED.compare([b].into_iter());
     control::ADAPTATION_CONTROL.compare([byte].into_iter());

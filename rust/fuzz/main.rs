@@ -72,6 +72,10 @@ mod rng;
 mod rules;
 #[path = "../differential/slice.rs"]
 mod slice;
+#[path = "../differential/standard_rules.rs"]
+mod standard_rules;
+#[path = "../differential/standard_stream.rs"]
+mod standard_stream;
 #[path = "../differential/stream.rs"]
 mod stream;
 #[path = "../differential/tally.rs"]

@@ -32,8 +32,11 @@ SHOWN = 160  # characters of a difference that are printed
 LONGEST = 1200  # seconds of the driver after which it counts as hung
 WORDS = {"u8": "i8", "u16": "i16", "u32": "i32", "u64": "i64", "usize": "i64"}
 
-# The module of the driver that most likely sees a wrong answer of a crate, or of its exported functions in of_CRATE.rt. It looks first.
+# The module of the driver that most likely sees a wrong answer of a function, of a crate, or of its exported functions in of_CRATE.rt. It
+# looks first.
 LIKELY = {
+    "has_discontinuity": "standard", "is_same": "standard", "repeated": "standard", "out_of_order": "standard", "again_after": "standard",
+    "Machine::standard": "standard", "of_machine::cmv_machine_standard": "standard",
     "timestamp": "timestamp", "control": "control", "packet": "packet", "adaptation": "adaptation", "pes": "head", "contents": "contents",
     "log": "machine", "machine": "machine", "writer": "writer", "pes_header": "gather", "gather": "gather",
 }  # fmt: skip
@@ -170,7 +173,7 @@ def first_difference(program, words):
 
 def look_first(wrong):
     """The words by which the driver looks first where the wrong answer most likely shows."""
-    for word in (Path(wrong.changes[0].file).stem.removeprefix("of_"), wrong.crate):
+    for word in (function_of(wrong), Path(wrong.changes[0].file).stem.removeprefix("of_"), wrong.crate):
         if word in LIKELY:
             return [*QUICK, "--only", LIKELY[word]]
     return QUICK
