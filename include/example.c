@@ -77,7 +77,7 @@ int main(void) {
     unsigned long index;
     uint64_t pid;
     for (pid = 0; pid < PIDS; pid++) {
-        cmv_machine_fresh(machines[pid]);
+        cmv_machine_fresh(machines[pid]); /* for a station that sends packets twice: cmv_machine_standard */
     }
     for (index = 0; fread(packet, 1, CMV_PACKET_SIZE, stdin) == CMV_PACKET_SIZE; index++) {
         uint32_t word = cmv_packet_pid(packet, CMV_PACKET_SIZE, &pid);

@@ -1,5 +1,6 @@
 /* Prints the units of a transport stream of one PID, read from standard input: the packet that each begins in, its PTS and DTS, and how
-   many bytes its payload has. A unit that a break cuts off is left out.
+   many bytes its payload has. A unit that a break cuts off is left out. A station may send packets twice: counters are judged by the
+   standard, and repeats are dropped.
 
        tools/library
        c++ -std=c++11 -I include include/example.cpp target/library/libclomaverift.a -o target/example
@@ -30,10 +31,10 @@ struct Event {
     std::uint64_t kind, index, place, length;
 };
 
-/* The event machine of a PID, with its log. */
+/* The event machine of a PID, with its log. With cmv_machine_fresh a repeated packet would be a break. */
 class Machine {
 public:
-    Machine() : log(1024) { cmv_machine_fresh(state.data()); }
+    Machine() : log(1024) { cmv_machine_standard(state.data()); }
 
     /* Takes packets up to the one that the log has no room for. Gives how many it took, and their events. */
     std::uint64_t run(const std::uint8_t *packets, std::size_t size, std::vector<Event> &events) {

@@ -34,7 +34,7 @@ build_all() {
     for name in "${tests[@]}"; do
         build "tests/$name.rs" "$name" --test "${crate[@]}"
     done
-    for name in times payload rewrite; do
+    for name in times payload rewrite standard; do
         build "examples/$name.rs" "$name" "${crate[@]}"
     done
 }
@@ -95,10 +95,14 @@ check_build_script() {
 }
 
 run_examples() {
-    local bytes
+    local bytes file
     "$runner" "$out/times" "$top/samples/sample.ts" 2>/dev/null | diff "$here/examples/times.txt" - || fail "the example times prints something else"
     bytes=$("$runner" "$out/payload" "$top/samples/sample.ts" 256 2>/dev/null | wc -c)
     [ "$bytes" -eq 7600 ] || fail "the example payload writes $bytes bytes" # four units: tools/sample says how long each is
+    need_python
+    python3 -B "$top/tools/python/twice.py" "$top/samples/sample.ts" "$out/twice.ts"
+    for file in "$top/samples/sample.ts" "$out/twice.ts"; do "$runner" "$out/standard" "$file"; done | diff "$here/examples/standard.txt" - ||
+        fail "the example standard prints something else"
     echo "examples: as stored"
 }
 

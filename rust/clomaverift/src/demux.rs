@@ -3,7 +3,7 @@
 use crate::error::{sure, Error};
 use crate::ffi;
 use crate::gather::Gathering;
-use crate::machine::{Event, EventKind, Machine, ENTRY};
+use crate::machine::{Event, EventKind, Machine, Mode, Repeat, ENTRY};
 use crate::packet::{ClockRef, Packet, Pid};
 use crate::pes::{PesHeader, PesLength, PtsDts, StreamId, Timestamp};
 use alloc::vec;
@@ -54,7 +54,8 @@ pub enum Found<'a> {
     },
     /// A unit that has ended.
     Unit(FoundUnit<'a>),
-    /// The counter of a packet does not follow the one before on its PID. The unit that was open, if there was one, is lost.
+    /// The counter of a packet does not follow the one before on its PID, by the rules of the [`Mode`] chosen. The unit that was open, if
+    /// there was one, is lost.
     #[non_exhaustive]
     ContinuityError {
         /// The PID.
@@ -70,7 +71,8 @@ pub enum Found<'a> {
         /// The packet whose payload does not fit.
         index: u64,
     },
-    /// A program clock reference. One that is flagged and truncated is not reported.
+    /// A program clock reference. One that is flagged and truncated is not reported. One of a repeated packet is: it may differ from that
+    /// of the packet before, as by the standard each of the two has its own time.
     #[non_exhaustive]
     Clock {
         /// The PID.
@@ -89,6 +91,15 @@ pub enum Found<'a> {
         index: u64,
         /// How it is marked.
         mark: Mark,
+    },
+    /// A packet was dropped because it repeats the one before on its PID: in [`Mode::Standard`] alone. Nothing but its clock reference is
+    /// told of it.
+    #[non_exhaustive]
+    Repeated {
+        /// The PID.
+        pid: Pid,
+        /// The packet.
+        index: u64,
     },
     /// A packet was refused, and counts in the index alone: [`Error::NoSync`], or [`Error::WrongLength`] for bytes after the last
     /// whole packet. With archives that are newer than this crate also [`Error::Unknown`], for an event of a kind that it does not know.
@@ -141,7 +152,8 @@ impl FoundUnit<'_> {
 #[non_exhaustive]
 pub enum Marked {
     /// Drops them, as the demultiplexer of mpeg2ts-reader does: nothing is found in them, and their counter does not count. So the next
-    /// packet of the PID that is not dropped is a continuity error, unless the 16 counters have come round.
+    /// packet of the PID that is not dropped is a continuity error, unless the 16 counters have come round or it is the same packet again,
+    /// which a station may have sent twice.
     #[default]
     Drop,
     /// Drops them, and reports each as [`Found::Dropped`].
@@ -196,6 +208,37 @@ impl Mark {
 /// # Ok::<(), clomaverift::Error>(())
 /// ```
 ///
+/// # Packets that are sent twice
+///
+/// Continuity counters are judged as mpeg2ts-reader judges them: if a station sends packets twice, each repeat is a continuity error, and
+/// hardly a unit is whole. [`Demux::standard`] judges them by the standard, and drops the repeats. Each of them is told as
+/// [`Found::Repeated`], and has an index; if one of the two is lost or marked as damaged, the other is taken.
+///
+/// ```
+/// use clomaverift::{Demux, Found, Packet, Unit};
+///
+/// fn units(mut demux: Demux, recording: &[u8]) -> Vec<Vec<u8>> {
+///     let mut units = Vec::new();
+///     let mut tell = |found: Found| {
+///         if let Found::Unit(unit) = found {
+///             units.push(unit.payload.to_vec());
+///         }
+///     };
+///     demux.push(recording, &mut tell);
+///     demux.finish(&mut tell);
+///     units
+/// }
+///
+/// let single = Unit::new(0x100, 0xE0).packets(&[1; 500])?;
+/// let mut twice: Vec<u8> = single.chunks(Packet::SIZE).flat_map(|packet| [packet, packet].concat()).collect();
+/// assert_eq!(units(Demux::standard(), &twice), [[1; 500]]);
+/// assert!(units(Demux::new(), &twice).is_empty());
+///
+/// twice[2 * Packet::SIZE + 1] |= 0x80; // the third packet is marked as damaged: the fourth is taken in its place
+/// assert_eq!(units(Demux::standard(), &twice), [[1; 500]]);
+/// # Ok::<(), clomaverift::Error>(())
+/// ```
+///
 /// # Memory
 ///
 /// The payload of an open unit is kept in the store of its PID. All stores together hold at most the bytes that [`Demux::memory`] allows,
@@ -209,6 +252,7 @@ impl Mark {
 pub struct Demux {
     slots: Slots,
     streams: Vec<Stream>,
+    mode: Mode,
     marked: Marked,
     /// The most bytes of a unit.
     unit: usize,
@@ -230,19 +274,27 @@ impl Default for Demux {
 impl fmt::Debug for Demux {
     fn fmt(&self, f: &mut fmt::Formatter<'_>) -> fmt::Result {
         let mut parts = f.debug_struct("Demux");
-        parts.field("index", &self.index).field("streams", &self.streams).field("marked", &self.marked);
+        parts.field("index", &self.index).field("streams", &self.streams);
+        parts.field("mode", &self.mode).field("marked", &self.marked);
         parts.field("at_most", &self.unit).field("memory", &self.memory).field("held", &self.held).finish()
     }
 }
 
 impl Demux {
-    /// For every PID except that of stuffing. Marked packets are dropped; a unit has at most 16 MiB, and all stores together 64 MiB.
+    /// For every PID except that of stuffing, in [`Mode::Crate`]. Marked packets are dropped; a unit has at most 16 MiB, and all stores
+    /// together 64 MiB.
     #[must_use]
     pub fn new() -> Demux {
         let mut slots = Slots::all(NEW);
         slots.set(Pid::STUFFING, UNWANTED);
-        let (streams, marked) = (Vec::new(), Marked::default());
-        Demux { slots, streams, marked, unit: UNIT, memory: MEMORY, held: 0, free_again: 0, index: 0 }
+        let (streams, mode, marked) = (Vec::new(), Mode::default(), Marked::default());
+        Demux { slots, streams, mode, marked, unit: UNIT, memory: MEMORY, held: 0, free_again: 0, index: 0 }
+    }
+
+    /// The same in [`Mode::Standard`]: for stations that send packets twice.
+    #[must_use]
+    pub fn standard() -> Demux {
+        Demux::new().mode(Mode::Standard)
     }
 
     /// For these PIDs alone, with the stuffing PID if it is among them. What was open before is forgotten.
@@ -261,6 +313,25 @@ impl Demux {
         pids.iter().for_each(|pid| self.slots.set(*pid, NEW));
         (self.streams, self.held) = (Vec::new(), 0);
         self
+    }
+
+    /// With continuity counters judged by these rules on every PID, from the next packet on.
+    ///
+    /// ```
+    /// use clomaverift::{Demux, Found, Mode, Unit};
+    ///
+    /// let packet = Unit::new(0x100, 0xE0).packets(&[1; 100])?;
+    /// let mut demux = Demux::new();
+    /// demux.push(&packet, |_| ());
+    /// demux.push(&packet, |found| assert!(matches!(found, Found::ContinuityError { index: 1, .. } | Found::Begin { .. })));
+    /// let mut demux = demux.mode(Mode::Standard);
+    /// demux.push(&packet, |found| assert!(matches!(found, Found::Repeated { index: 2, .. })));
+    /// # Ok::<(), clomaverift::Error>(())
+    /// ```
+    #[must_use]
+    pub fn mode(mut self, mode: Mode) -> Demux {
+        self.streams.iter_mut().for_each(|stream| stream.machine.set_mode(mode));
+        Demux { mode, ..self }
     }
 
     /// With marked packets treated like this.
@@ -376,7 +447,7 @@ impl Demux {
     fn add(&mut self, pid: Pid) -> usize {
         let slot = self.streams.len();
         self.slots.set(pid, slot as u16);
-        self.streams.push(Stream::new(pid));
+        self.streams.push(Stream::new(pid, self.mode));
         slot
     }
 
@@ -388,6 +459,7 @@ impl Demux {
         stream.machine.rewind();
         sure(stream.machine.step(packet, &mut log));
         match stream.machine.place() {
+            0 if stream.machine.repeat() == Repeat::Spent => self.repeated(slot, tell),
             0 => (),
             // Most packets only go on with a unit that has room for them.
             ENTRY if stream.goes_on(packet, sure(ffi::log_entry_at(&log, 0))) => (),
@@ -404,6 +476,12 @@ impl Demux {
                 Err(error) => tell(Found::Refused { index: self.index, error }),
             }
         }
+    }
+
+    /// Tells that a packet was dropped as a repeat. It is not inlined either.
+    #[inline(never)]
+    fn repeated(&self, slot: usize, tell: &mut impl FnMut(Found<'_>)) {
+        tell(Found::Repeated { pid: self.streams[slot].pid, index: self.index });
     }
 
     /// Has a stream take an event of a packet.
@@ -522,8 +600,8 @@ impl fmt::Debug for Stream {
 }
 
 impl Stream {
-    fn new(pid: Pid) -> Stream {
-        Stream { pid, machine: Machine::new(), gathering: Gathering::new(), store: Vec::new(), unit: None }
+    fn new(pid: Pid, mode: Mode) -> Stream {
+        Stream { pid, machine: Machine::fresh(mode), gathering: Gathering::new(), store: Vec::new(), unit: None }
     }
 
     /// Whether an entry of the log adds to the open unit, and there is room: then it is done.
@@ -639,6 +717,7 @@ mod tests {
             Found::StoreFull { pid, index } => format!("{index} full {pid:?}"),
             Found::Clock { pid, index, pcr } => format!("{index} clock {pid:?} {}", u64::from(pcr)),
             Found::Dropped { pid, index, mark } => format!("{index} dropped {pid:?} {mark:?}"),
+            Found::Repeated { pid, index } => format!("{index} repeated {pid:?}"),
             Found::Refused { index, error } => format!("{index} refused {}", error.number()),
         }
     }
@@ -818,6 +897,111 @@ mod tests {
             "12 unit Pid(0032) None None 2000 false",
         ];
         assert_eq!(units, expected);
+    }
+
+    /// Each packet followed by its copy.
+    fn twice(recording: &[u8]) -> Vec<u8> {
+        recording.chunks(Packet::SIZE).flat_map(|packet| [packet, packet].concat()).collect()
+    }
+
+    /// A recording of two PIDs, whose packets are mixed, and a clock.
+    fn mixed() -> Vec<u8> {
+        let one = Unit::new(0x30, 0xE0).pts_dts(7_200, 3_600).packets(&[1; 400]).unwrap();
+        let next = Unit::new(0x30, 0xE0).counter(3).packets(&[2; 10]).unwrap();
+        let sound = Unit::new(0x31, 0xC1).pts(5).packets(&[3; 20]).unwrap();
+        [&one[..188], &sound, &one[188..], &clock_packet(0x32), &next].concat()
+    }
+
+    #[test]
+    fn packets_sent_twice_are_those_sent_once() {
+        let expected = [
+            "0 start Pid(0030)",
+            "0 begin Pid(0030) Video(0)",
+            "1 repeated Pid(0030)",
+            "2 start Pid(0031)",
+            "2 begin Pid(0031) Audio(1)",
+            "3 repeated Pid(0031)",
+            "5 repeated Pid(0030)",
+            "7 repeated Pid(0030)",
+            "8 clock Pid(0032) 27000015",
+            "9 clock Pid(0032) 27000015",
+            "0 unit Pid(0030) Some(7200) Some(3600) 400 true",
+            "10 begin Pid(0030) Video(0)",
+            "11 repeated Pid(0030)",
+            "10 unit Pid(0030) None None 10 false",
+            "2 unit Pid(0031) Some(5) None 20 false",
+        ];
+        assert_eq!(lines(Demux::standard(), &twice(&mixed())), expected);
+        assert_eq!(lines(Demux::new().mode(Mode::Standard), &twice(&mixed())), expected);
+        let of_one: Vec<_> = expected.iter().filter(|line| line.contains("0031")).copied().collect();
+        assert_eq!(lines(Demux::standard().only(&[Pid::new(0x31).unwrap()]), &twice(&mixed())), of_one);
+        assert_eq!(lines(Demux::standard(), &mixed()), lines(Demux::new(), &mixed()));
+        let broken = lines(Demux::new(), &twice(&mixed()));
+        assert_eq!(broken.iter().filter(|line| line.contains("error")).count(), 5);
+    }
+
+    #[test]
+    fn a_packet_is_repeated_once() {
+        let unit = Unit::new(0x30, 0xE0).packets(&[1; 700]).unwrap();
+        let four = unit[188..376].repeat(4);
+        let expected = [
+            "0 start Pid(0030)",
+            "0 begin Pid(0030) Video(0)",
+            "2 repeated Pid(0030)",
+            "3 error Pid(0030)",
+            "4 repeated Pid(0030)",
+        ];
+        assert_eq!(lines(Demux::standard(), &[&unit[..188], &four, &unit[376..]].concat()), expected);
+    }
+
+    #[test]
+    fn of_two_packets_one_is_enough() {
+        let unit = Unit::new(0x30, 0xE0).packets(&[1; 700]).unwrap();
+        let whole = "0 unit Pid(0030) None None 700 false";
+        for at in 2..8 {
+            let mut lost = twice(&unit);
+            lost.drain(at * 188..(at + 1) * 188);
+            let told = lines(Demux::standard(), &lost);
+            assert_eq!((told.last().unwrap().as_str(), told.len()), (whole, 6));
+            for mark in [(1, 0x80), (3, 0x40)] {
+                let mut marked = twice(&unit);
+                marked[at * 188 + mark.0] |= mark.1;
+                let told = lines(Demux::standard(), &marked);
+                assert_eq!((told.last().unwrap().as_str(), told.len()), (whole, 6));
+            }
+        }
+    }
+
+    #[test]
+    fn a_repeated_packet_has_its_own_clock() {
+        let mut first = Unit::new(0x30, 0xE0).packets(&[1; 100]).unwrap();
+        assert_eq!(first[3..5], [0x30, 74]); // stuffed, so that there is room for a clock
+        first[5..12].copy_from_slice(&[0x10, 0, 0, 0xAF, 0xC8, 0x7E, 0x0F]);
+        let mut second = first.clone();
+        second[11] = 0x10;
+        let expected = [
+            "0 clock Pid(0030) 27000015",
+            "0 start Pid(0030)",
+            "0 begin Pid(0030) Video(0)",
+            "1 clock Pid(0030) 27000016",
+            "1 repeated Pid(0030)",
+            "0 unit Pid(0030) None None 100 false",
+        ];
+        assert_eq!(lines(Demux::standard(), &[first, second].concat()), expected);
+    }
+
+    #[test]
+    fn the_mode_of_open_streams_can_be_changed() {
+        let unit = Unit::new(0x30, 0xE0).packets(&[1; 300]).unwrap();
+        let mut demux = Demux::standard();
+        let mut found = Vec::new();
+        demux.push(&unit[..188], |it| found.push(line(it)));
+        let mut demux = demux.mode(Mode::Crate);
+        demux.push(&unit[..188], |it| found.push(line(it)));
+        let mut demux = demux.mode(Mode::Standard);
+        demux.push(&unit[..188], |it| found.push(line(it)));
+        let rest = ["1 error Pid(0030)", "1 begin Pid(0030) Video(0)", "2 repeated Pid(0030)"];
+        assert_eq!(found[2..], rest);
     }
 
     #[test]

@@ -108,6 +108,7 @@ functions! {
     clock_ref_into_u64 = cmv_clock_ref_into_u64(base: u64, extension: u16 => number);
     clock_ref_eq = cmv_clock_ref_eq(base: u64, extension: u16, base2: u64, extension2: u16 => same);
     continuity_counter_new = cmv_continuity_counter_new(count: u8 => value);
+    continuity_counter_compare = cmv_continuity_counter_compare(count: u8, last: u8 => compared);
     continuity_counter_follows = cmv_continuity_counter_follows(count: u8, other: u8 => follows);
     pid_try_from = cmv_pid_try_from(pid: u16 => value);
     adaptation_control = cmv_adaptation_control(byte: u8 => field, payload);
@@ -208,9 +209,16 @@ pub mod constants {
     }
 
     /// The row of a machine before its first packet, in place of another.
-    pub fn machine_fresh(mut state: [u64; 4]) -> [u64; 4] {
+    pub fn machine_fresh(mut state: [u64; MACHINE]) -> [u64; MACHINE] {
         // SAFETY: the row is live: all that the entry asks.
         unsafe { cmv_machine_fresh(&mut state) };
+        state
+    }
+
+    /// The same in the standard mode.
+    pub fn machine_standard(mut state: [u64; MACHINE]) -> [u64; MACHINE] {
+        // SAFETY: the row is live: all that the entry asks.
+        unsafe { cmv_machine_standard(&mut state) };
         state
     }
 
@@ -224,8 +232,11 @@ pub mod constants {
 
 // ---- The event machine and its log.
 
+/// The numbers of a machine's state.
+pub const MACHINE: usize = 6;
+
 #[inline]
-pub fn machine_step(state: &mut [u64; 4], packet: &[u8], log: &mut [u8]) -> Result<(), Error> {
+pub fn machine_step(state: &mut [u64; MACHINE], packet: &[u8], log: &mut [u8]) -> Result<(), Error> {
     // SAFETY: the pointers and the lengths are those of a live row and live slices, and what is written shares no byte with another.
     let word = unsafe { cmv_machine_step(state, packet.as_ptr(), packet.len(), log.as_mut_ptr(), log.len()) };
     told(word, ())
@@ -233,7 +244,7 @@ pub fn machine_step(state: &mut [u64; 4], packet: &[u8], log: &mut [u8]) -> Resu
 
 /// How many packets were taken, and the word of the refusal of the next one.
 #[inline]
-pub fn machine_run(state: &mut [u64; 4], bytes: &[u8], log: &mut [u8]) -> Result<[u64; 2], Error> {
+pub fn machine_run(state: &mut [u64; MACHINE], bytes: &[u8], log: &mut [u8]) -> Result<[u64; 2], Error> {
     let [mut taken, mut ended] = [0; 2];
     // SAFETY: as for `machine_step`, and the out numbers are live.
     let word = unsafe {

@@ -6,26 +6,89 @@ use crate::packet::ContinuityCounter;
 use core::fmt;
 use core::iter::FusedIterator;
 
+/// The places of a machine's numbers in its row.
+const MODE: usize = 0;
+const PHASE: usize = 1;
+const LAST: usize = 2;
+const REPEAT: usize = 3;
+const TAKEN: usize = 4;
+const PLACE: usize = 5;
+
 /// The number of no last counter.
 const NO_COUNTER: u64 = 255;
-
-/// The row before the first packet: an entry of the library fills it too, and a test holds the two together.
-const FRESH: [u64; 4] = [0, NO_COUNTER, 0, 0];
 
 /// The bytes of a log entry.
 pub(crate) const ENTRY: usize = 8;
 
-/// The phase of a machine.
+/// By whose rules a machine judges the continuity counters. In both modes a packet with the payload flag goes on if its counter is the one
+/// after the last, and one without it if its counter is the last again; the first packet always goes on. The modes differ in what becomes
+/// of other packets. Each case has the number that it has in the row of the C header.
+#[derive(Clone, Copy, Debug, Default, PartialEq, Eq, Hash)]
+#[non_exhaustive]
+pub enum Mode {
+    /// By those of mpeg2ts-reader: every other packet is a continuity error. So is each repeat, if a station sends packets twice.
+    #[default]
+    Crate = 0,
+    /// By those of Rec. ITU-T H.222.0 | ISO/IEC 13818-1 (2.4.3.3 and 2.4.3.5).
+    ///
+    /// A packet may be sent twice: if it has the counter of the one just before, and both have the payload flag, it is a repeat. It is
+    /// dropped without an event, and counts as taken. Its other bytes are not compared. It may be sent twice and no more: a repeat right
+    /// after a dropped one is a continuity error, and one more after that is dropped again. [`Repeat`] says which of them is next.
+    ///
+    /// A packet whose adaptation field has the discontinuity flag goes on whatever its counter is, and is never a repeat.
+    Standard = 1,
+}
+
+/// Whether the packet just before may be repeated. A machine keeps it in both modes, so that its mode can be changed between two packets,
+/// and asks for it in [`Mode::Standard`] alone. Each case has the number that it has in the row of the C header.
+#[derive(Clone, Copy, Debug, PartialEq, Eq, Hash)]
+#[non_exhaustive]
+pub enum Repeat {
+    /// It may not, for it had no payload flag; or there was none.
+    Barred = 0,
+    /// It may, once.
+    Open = 1,
+    /// No more, for it was dropped as a repeat itself.
+    Spent = 2,
+}
+
+/// The phase of a machine. Each case has the number that it has in the row of the C header.
 #[derive(Clone, Copy, Debug, PartialEq, Eq, Hash)]
 #[non_exhaustive]
 pub enum Phase {
     /// No packet with the start flag was seen.
-    Begin,
+    Begin = 0,
     /// A packet with the start flag was seen.
-    Started,
+    Started = 1,
     /// There was a continuity error, and no packet with the start flag since.
-    IgnoreRest,
+    IgnoreRest = 2,
 }
+
+/// Makes numbers of the cases of an enum, and cases of the numbers, for a host that stores states.
+macro_rules! numbered {
+    ($name:ident: $($case:ident),*) => {
+        impl From<$name> for u8 {
+            #[inline]
+            fn from(case: $name) -> u8 {
+                case as u8
+            }
+        }
+
+        impl TryFrom<u8> for $name {
+            type Error = Error;
+
+            /// [`Error::OutOfRange`] for a number that no case has.
+            #[inline]
+            fn try_from(number: u8) -> Result<$name, Error> {
+                [$($name::$case),*].get(usize::from(number)).copied().ok_or(Error::OutOfRange)
+            }
+        }
+    };
+}
+
+numbered!(Mode: Crate, Standard);
+numbered!(Repeat: Barred, Open, Spent);
+numbered!(Phase: Begin, Started, IgnoreRest);
 
 /// The event machine of one PID's packets: what mpeg2ts-reader's `PesPacketFilter` tells its consumer is written to a log here.
 ///
@@ -46,10 +109,38 @@ pub enum Phase {
 /// assert_eq!(kinds, [EventKind::StartStream, EventKind::BeginPacket, EventKind::ContinuityError]);
 /// # Ok::<(), clomaverift::Error>(())
 /// ```
+///
+/// # Packets that are sent twice
+///
+/// By the standard a station may send a packet twice, so that one of the two can be lost. [`Machine::new`] judges counters as
+/// mpeg2ts-reader does, and has a continuity error for each repeat; [`Machine::standard`] drops it. There a stream in which each packet is
+/// sent twice has the events of the single stream:
+///
+/// ```
+/// use clomaverift::{EventKind, Machine, Packet, Unit};
+///
+/// fn events(mut machine: Machine, packets: &[u8]) -> Vec<(EventKind, u8, u8)> {
+///     let mut log = [0; 256];
+///     let ran = machine.run(packets, &mut log).unwrap();
+///     assert_eq!(ran.packets as usize, packets.len() / Packet::SIZE); // a repeat is taken too
+///     machine.events(&log).map(Result::unwrap).map(|event| (event.kind, event.place, event.length)).collect()
+/// }
+///
+/// let single = Unit::new(0x100, 0xE0).pts(90_000).packets(&[1; 500])?;
+/// let twice: Vec<u8> = single.chunks(Packet::SIZE).flat_map(|packet| [packet, packet].concat()).collect();
+/// assert_eq!(events(Machine::standard(), &twice), events(Machine::standard(), &single));
+/// assert_eq!(events(Machine::standard(), &single), events(Machine::new(), &single));
+///
+/// let errors = |events: Vec<(EventKind, u8, u8)>| {
+///     events.iter().filter(|(kind, ..)| *kind == EventKind::ContinuityError).count()
+/// };
+/// assert_eq!(errors(events(Machine::new(), &twice)), 3);
+/// # Ok::<(), clomaverift::Error>(())
+/// ```
 #[derive(Clone, Copy, PartialEq, Eq, Hash)]
 pub struct Machine {
-    /// Phase, last counter, packets taken, place in the log: the row of numbers that the library is lent.
-    row: [u64; 4],
+    /// The row of numbers that the library is lent.
+    row: [u64; ffi::MACHINE],
 }
 
 impl Default for Machine {
@@ -60,24 +151,54 @@ impl Default for Machine {
 }
 
 impl Machine {
-    /// A machine before its first packet, at the start of a log.
+    /// A machine before its first packet, at the start of a log, in [`Mode::Crate`].
     #[must_use]
     #[inline]
     pub fn new() -> Machine {
-        Machine { row: FRESH }
+        Machine::fresh(Mode::Crate)
     }
 
-    /// A machine in a state that was kept elsewhere. A step or a run checks the place, which has to be a multiple of 8 within the log.
+    /// The same in [`Mode::Standard`].
     #[must_use]
     #[inline]
-    pub fn from_parts(phase: Phase, last: Option<ContinuityCounter>, taken: u32, place: usize) -> Machine {
-        let phase = match phase {
-            Phase::Begin => 0,
-            Phase::Started => 1,
-            Phase::IgnoreRest => 2,
-        };
+    pub fn standard() -> Machine {
+        Machine::fresh(Mode::Standard)
+    }
+
+    /// A machine before its first packet. Entries of the library fill the same rows, and a test holds the two together.
+    #[inline]
+    pub(crate) fn fresh(mode: Mode) -> Machine {
+        Machine::from_parts(mode, Phase::Begin, None, Repeat::Barred, 0, 0)
+    }
+
+    /// A machine in a state that was kept elsewhere: each part is what the method of its name gives. A step or a run checks the place,
+    /// which has to be a multiple of 8 within the log.
+    ///
+    /// ```
+    /// use clomaverift::{ContinuityCounter, Machine, Mode, Phase, Repeat};
+    ///
+    /// let machine = Machine::from_parts(
+    ///     Mode::Standard, Phase::Started, Some(ContinuityCounter::new(5)?), Repeat::Open, 1_000, 0,
+    /// );
+    /// let numbers: [u8; 3] = [machine.mode().into(), machine.phase().into(), machine.repeat().into()]; // to be stored
+    /// let [mode, phase, repeat] = numbers;
+    /// let (mode, phase, repeat) = (mode.try_into()?, phase.try_into()?, repeat.try_into()?);
+    /// let again = Machine::from_parts(mode, phase, machine.last(), repeat, machine.taken(), machine.place());
+    /// assert_eq!(again, machine);
+    /// # Ok::<(), clomaverift::Error>(())
+    /// ```
+    #[must_use]
+    #[inline]
+    pub fn from_parts(
+        mode: Mode,
+        phase: Phase,
+        last: Option<ContinuityCounter>,
+        repeat: Repeat,
+        taken: u32,
+        place: usize,
+    ) -> Machine {
         let last = last.map_or(NO_COUNTER, |counter| counter.count().into());
-        Machine { row: [phase, last, taken.into(), place as u64] }
+        Machine { row: [mode as u64, phase as u64, last, repeat as u64, taken.into(), place as u64] }
     }
 
     /// Takes a packet, and writes its events to the log.
@@ -117,13 +238,13 @@ impl Machine {
     /// no packet, and changes neither the machine nor the log.
     ///
     /// ```
-    /// # use clomaverift::{Error, Machine, Phase};
+    /// # use clomaverift::{Error, Machine, Mode, Phase, Repeat};
     /// let mut machine = Machine::new();
     /// let mut log = [7; 64];
     /// assert_eq!(machine.run(&[0x47; 187], &mut log), Err(Error::WrongLength));
     /// assert_eq!((machine, log), (Machine::new(), [7; 64]));
     ///
-    /// let mut between_entries = Machine::from_parts(Phase::Begin, None, 0, 4);
+    /// let mut between_entries = Machine::from_parts(Mode::Crate, Phase::Begin, None, Repeat::Barred, 0, 4);
     /// assert_eq!(between_entries.run(&[], &mut log), Err(Error::OutOfRange));
     /// ```
     #[inline]
@@ -141,14 +262,38 @@ impl Machine {
     /// Puts the machine at the start of a log, and its count of packets to 0. The stream goes on.
     #[inline]
     pub fn rewind(&mut self) {
-        self.row[2..].fill(0);
+        (self.row[TAKEN], self.row[PLACE]) = (0, 0);
+    }
+
+    /// By whose rules the machine judges counters.
+    #[must_use]
+    #[inline]
+    pub fn mode(&self) -> Mode {
+        match self.row[MODE] {
+            0 => Mode::Crate,
+            _ => Mode::Standard,
+        }
+    }
+
+    /// Has the next packets judged by these rules. The stream goes on.
+    ///
+    /// ```
+    /// use clomaverift::{Machine, Mode};
+    ///
+    /// let mut machine = Machine::new();
+    /// machine.set_mode(Mode::Standard);
+    /// assert_eq!(machine, Machine::standard());
+    /// ```
+    #[inline]
+    pub fn set_mode(&mut self, mode: Mode) {
+        self.row[MODE] = mode as u64;
     }
 
     /// Where the machine is.
     #[must_use]
     #[inline]
     pub fn phase(&self) -> Phase {
-        match self.row[0] {
+        match self.row[PHASE] {
             0 => Phase::Begin,
             1 => Phase::Started,
             _ => Phase::IgnoreRest,
@@ -159,29 +304,40 @@ impl Machine {
     #[must_use]
     #[inline]
     pub fn last(&self) -> Option<ContinuityCounter> {
-        ContinuityCounter::new(self.row[1] as u8).ok()
+        ContinuityCounter::new(self.row[LAST] as u8).ok()
     }
 
-    /// The packets taken: the index of the next one.
+    /// Whether the last packet taken may be repeated: [`Repeat::Spent`] if it was itself dropped as a repeat.
+    #[must_use]
+    #[inline]
+    pub fn repeat(&self) -> Repeat {
+        match self.row[REPEAT] {
+            0 => Repeat::Barred,
+            1 => Repeat::Open,
+            _ => Repeat::Spent,
+        }
+    }
+
+    /// The packets taken, repeats too: the index of the next one.
     #[must_use]
     #[inline]
     pub fn taken(&self) -> u32 {
-        self.row[2] as u32
+        self.row[TAKEN] as u32
     }
 
     /// The next free byte of the log.
     #[must_use]
     #[inline]
     pub fn place(&self) -> usize {
-        self.row[3] as usize
+        self.row[PLACE] as usize
     }
 }
 
 impl fmt::Debug for Machine {
     fn fmt(&self, f: &mut fmt::Formatter<'_>) -> fmt::Result {
         let mut parts = f.debug_struct("Machine");
-        parts.field("phase", &self.phase()).field("last", &self.last());
-        parts.field("taken", &self.taken()).field("place", &self.place()).finish()
+        parts.field("mode", &self.mode()).field("phase", &self.phase()).field("last", &self.last());
+        parts.field("repeat", &self.repeat()).field("taken", &self.taken()).field("place", &self.place()).finish()
     }
 }
 
@@ -374,6 +530,11 @@ mod tests {
         bytes
     }
 
+    /// A machine in the crate's mode.
+    fn kept(phase: Phase, last: Option<ContinuityCounter>, taken: u32, place: usize) -> Machine {
+        Machine::from_parts(Mode::Crate, phase, last, Repeat::Barred, taken, place)
+    }
+
     fn told(machine: &Machine, log: &[u8]) -> Vec<(u32, EventKind, u8, u8)> {
         let events = machine.events(log).map(Result::unwrap);
         events.map(|event| (event.index, event.kind, event.place, event.length)).collect()
@@ -400,7 +561,8 @@ mod tests {
     #[test]
     fn a_new_machine_is_the_librarys() {
         for number in [0, 1, 255, u64::MAX] {
-            assert_eq!(ffi::constants::machine_fresh([number; 4]), Machine::new().row);
+            assert_eq!(ffi::constants::machine_fresh([number; 6]), Machine::new().row);
+            assert_eq!(ffi::constants::machine_standard([number; 6]), Machine::standard().row);
         }
     }
 
@@ -427,14 +589,14 @@ mod tests {
         assert_eq!(machine.run(&bytes[376..], &mut log), Ok(Ran { packets: 1, ended: None }));
         assert_eq!(told(&machine, &log), [(0, EventKind::EndPacket, 0, 0), (0, EventKind::BeginPacket, 4, 184)]);
 
-        let mut machine = Machine::from_parts(Phase::Started, ContinuityCounter::new(15).ok(), u32::MAX - 1, 0);
+        let mut machine = kept(Phase::Started, ContinuityCounter::new(15).ok(), u32::MAX - 1, 0);
         assert_eq!(machine.run(&bytes, &mut log), Ok(Ran { packets: 1, ended: Some(Error::IndexFull) }));
         assert_eq!(machine.taken(), u32::MAX);
     }
 
     #[test]
     fn a_run_over_no_packet() {
-        let mut machine = Machine::from_parts(Phase::IgnoreRest, ContinuityCounter::new(9).ok(), u32::MAX, 8);
+        let mut machine = kept(Phase::IgnoreRest, ContinuityCounter::new(9).ok(), u32::MAX, 8);
         let before = machine;
         assert_eq!(machine.run(&[], &mut [0; 8]), Ok(Ran { packets: 0, ended: None }));
         assert_eq!(machine, before);
@@ -445,7 +607,7 @@ mod tests {
         let bytes = [packet(true, 0), packet(false, 1)].concat();
         let places = [0, 8, 12, 64, usize::MAX - 7];
         for (machine, length) in places.iter().flat_map(|&place| {
-            let machine = Machine::from_parts(Phase::Started, ContinuityCounter::new(15).ok(), 5, place);
+            let machine = kept(Phase::Started, ContinuityCounter::new(15).ok(), 5, place);
             [0, 1, 187, 188, 189, 375, 376].map(|length| (machine, length))
         }) {
             let error = match (length % 188, machine.place()) {
@@ -461,14 +623,188 @@ mod tests {
 
     #[test]
     fn states_kept_elsewhere() {
-        let mut machine = Machine::from_parts(Phase::Started, ContinuityCounter::new(4).ok(), u32::MAX, 0);
+        let mut machine = kept(Phase::Started, ContinuityCounter::new(4).ok(), u32::MAX, 0);
         assert_eq!(machine.step(&packet(true, 5), &mut [0; 16]), Err(Error::IndexFull));
         machine.rewind();
         let mut log = [0; 16];
         assert_eq!(machine.step(&packet(true, 5), &mut log), Ok(()));
         assert_eq!(told(&machine, &log), [(0, EventKind::EndPacket, 0, 0), (0, EventKind::BeginPacket, 4, 184)]);
-        let mut machine = Machine::from_parts(Phase::IgnoreRest, None, 0, 24);
+        let mut machine = kept(Phase::IgnoreRest, None, 0, 24);
         assert_eq!(machine.step(&packet(true, 5), &mut [0; 16]), Err(Error::OutOfRange));
+    }
+
+    /// A packet by its name: P with the payload flag or A without, the counter, and then `d` for the discontinuity flag, `s` for the
+    /// start flag and a head.
+    fn named(name: &str) -> [u8; 188] {
+        let counter: u8 = name[1..].trim_end_matches(|letter| "ds".contains(letter)).parse().unwrap();
+        let (payload, flag, start) = (name.starts_with('P'), name.contains('d'), name.contains('s'));
+        let mut bytes = packet(start, counter);
+        let field = if flag { 0x80 } else { 0 };
+        match (payload, flag) {
+            (true, false) => return bytes,
+            (true, true) => bytes[3..].rotate_right(2),
+            (false, _) => bytes[4..].fill(0xFF),
+        }
+        bytes[3..6].copy_from_slice(&[
+            if payload { 0x30 } else { 0x20 } | counter,
+            if payload { 1 } else { 183 },
+            field,
+        ]);
+        bytes
+    }
+
+    /// What becomes of a packet: it goes on, it is dropped or it breaks.
+    fn events_of(name: &str, fate: &str, phase: &mut Phase) -> Vec<EventKind> {
+        let mut events = Vec::new();
+        match (fate, *phase) {
+            ("drop", _) => return events,
+            ("break", _) => {
+                events.push(EventKind::ContinuityError);
+                *phase = Phase::IgnoreRest;
+            }
+            (_, Phase::Begin) if name.contains('s') => events.push(EventKind::StartStream),
+            (_, Phase::Started) if name.contains('s') => events.push(EventKind::EndPacket),
+            (_, Phase::Started) if name.starts_with('P') => events.push(EventKind::ContinuePacket),
+            _ => (),
+        }
+        if name.contains('s') {
+            events.push(EventKind::BeginPacket);
+            *phase = Phase::Started;
+        }
+        events
+    }
+
+    /// Holds what becomes of packets, one after another, to the fates given: by a step for each, and by one run over all.
+    fn check_fates(first: Machine, names: &str, fates: &str) {
+        let packets: Vec<[u8; 188]> = names.split(' ').map(named).collect();
+        let (mut stepped, mut log) = (first, [0; 256]);
+        let (mut phase, mut expected) = (first.phase(), Vec::new());
+        for (index, (name, fate)) in (0..).zip(names.split(' ').zip(fates.split(' '))) {
+            let events = events_of(name, fate, &mut phase);
+            expected.extend(events.into_iter().map(|kind| (index, kind)));
+            assert_eq!(stepped.step(&packets[index as usize], &mut log), Ok(()));
+            let kinds: Vec<_> = told(&stepped, &log).iter().map(|(index, kind, ..)| (*index, *kind)).collect();
+            assert_eq!(kinds, expected, "{names}: {name} at {index} from {first:?}");
+            assert_eq!((stepped.phase(), stepped.taken(), stepped.mode()), (phase, index + 1, first.mode()), "{names}");
+            let repeat = match fate {
+                "drop" => Repeat::Spent,
+                _ if name.starts_with('P') => Repeat::Open,
+                _ => Repeat::Barred,
+            };
+            assert_eq!(stepped.repeat(), repeat, "{names}: {name} at {index}");
+            assert_eq!(stepped.last().map(ContinuityCounter::count), Some(packets[index as usize][3] & 0x0F));
+        }
+        assert_eq!(names.split(' ').count(), fates.split(' ').count());
+        let (mut ran, mut log_of_run) = (first, [0; 256]);
+        let all = Ran { packets: packets.len() as u32, ended: None };
+        assert_eq!(ran.run(&packets.concat(), &mut log_of_run), Ok(all));
+        assert_eq!((ran, log_of_run), (stepped, log), "{names}");
+    }
+
+    /// Before its first packet, and in a unit.
+    fn firsts(mode: Mode) -> [Machine; 2] {
+        [Machine::fresh(mode), Machine::from_parts(mode, Phase::Started, None, Repeat::Barred, 0, 0)]
+    }
+
+    #[test]
+    fn repeats_in_the_standard_mode() {
+        let rows = [
+            ("P5 P5 P5 P5 P5", "on drop break drop break"),
+            ("P5 A5 P5", "on on break"),
+            ("A5 P5", "on break"),
+            ("P5 P5 P6 P6", "on drop on drop"),
+            ("P5 P9d P9 P10", "on on drop on"),
+            ("P5 P5d", "on on"),
+            ("P5 P5 A5 P5", "on drop on break"),
+            ("P5 P5s", "on drop"),
+            ("P5s P5s P6 P6 P7s P7s", "on drop on drop on drop"),
+            ("P15 P15 P0 P0", "on drop on drop"),
+            ("A5 A5 A5 P6 P6", "on on on on drop"),
+            ("P5 P5 P5d P5", "on drop on drop"),
+            ("P5d P5d P5 P5", "on on drop break"),
+            ("A5 A9d P9 P10", "on on break on"),
+            ("P5 P7 P7 P8", "on break drop on"),
+            ("P5 P7s P7s P8", "on break drop on"),
+            ("P5 A9 A9 P9", "on break on break"),
+            ("P5 P4", "on break"),
+        ];
+        for (names, fates) in rows {
+            firsts(Mode::Standard).iter().for_each(|first| check_fates(*first, names, fates));
+        }
+    }
+
+    #[test]
+    fn repeats_in_the_crates_mode() {
+        let rows = [
+            ("P5 P5 P5 P6", "on break break on"),
+            ("P5 A5 P5", "on on break"),
+            ("P5 P9d P9", "on break break"),
+            ("P5 P5d", "on break"),
+            ("A5 A9d", "on break"),
+            ("P5 P5s", "on break"),
+        ];
+        for (names, fates) in rows {
+            firsts(Mode::Crate).iter().for_each(|first| check_fates(*first, names, fates));
+        }
+    }
+
+    #[test]
+    fn the_mode_may_be_changed_between_packets() {
+        let mut machine = Machine::new();
+        let mut log = [0; 64];
+        let mut step = |mode, name| {
+            machine.rewind();
+            machine.set_mode(mode);
+            machine.step(&named(name), &mut log).unwrap();
+            (machine.place() > 0, machine.repeat())
+        };
+        assert_eq!(step(Mode::Crate, "P5"), (false, Repeat::Open));
+        assert_eq!(step(Mode::Standard, "P5"), (false, Repeat::Spent));
+        assert_eq!(step(Mode::Crate, "P5"), (true, Repeat::Open));
+        assert_eq!(step(Mode::Standard, "P5"), (false, Repeat::Spent));
+        assert_eq!(step(Mode::Standard, "P5"), (true, Repeat::Open));
+    }
+
+    #[test]
+    fn a_repeat_needs_no_room_in_the_log_and_is_counted() {
+        let five = ContinuityCounter::new(5).ok();
+        for (repeat, broken) in [(Repeat::Barred, true), (Repeat::Open, false), (Repeat::Spent, true)] {
+            let first = Machine::from_parts(Mode::Standard, Phase::Started, five, repeat, u32::MAX - 1, 0);
+            let mut machine = first;
+            let stepped = machine.step(&named("P5s"), &mut []);
+            if broken {
+                assert_eq!((stepped, machine), (Err(Error::LogFull), first));
+            } else {
+                let dropped = Machine::from_parts(Mode::Standard, Phase::Started, five, Repeat::Spent, u32::MAX, 0);
+                assert_eq!((stepped, machine), (Ok(()), dropped));
+            }
+        }
+        let mut full = Machine::from_parts(Mode::Standard, Phase::Started, five, Repeat::Open, u32::MAX, 0);
+        assert_eq!(full.step(&named("P5"), &mut []), Err(Error::IndexFull));
+    }
+
+    #[test]
+    fn parts_are_given_back() {
+        let fifteen = ContinuityCounter::new(15).ok();
+        for mode in [Mode::Crate, Mode::Standard] {
+            for phase in [Phase::Begin, Phase::Started, Phase::IgnoreRest] {
+                for repeat in [Repeat::Barred, Repeat::Open, Repeat::Spent] {
+                    let mut machine = Machine::from_parts(mode, phase, fifteen, repeat, 7, 16);
+                    assert_eq!((machine.mode(), machine.phase(), machine.last()), (mode, phase, fifteen));
+                    assert_eq!((machine.repeat(), machine.taken(), machine.place()), (repeat, 7, 16));
+                    machine.rewind();
+                    assert_eq!(machine, Machine::from_parts(mode, phase, fifteen, repeat, 0, 0));
+                }
+            }
+        }
+        for number in 0..=255 {
+            let answer = |cases| if number < cases { Ok(number) } else { Err(Error::OutOfRange) };
+            assert_eq!(Mode::try_from(number).map(u8::from), answer(2));
+            assert_eq!(Phase::try_from(number).map(u8::from), answer(3));
+            assert_eq!(Repeat::try_from(number).map(u8::from), answer(3));
+        }
+        let text = "Machine { mode: Standard, phase: Begin, last: None, repeat: Barred, taken: 0, place: 0 }";
+        assert_eq!(format!("{:?}", Machine::standard()), text);
     }
 
     #[test]

@@ -316,6 +316,39 @@ impl ContinuityCounter {
     pub fn follows(self, other: ContinuityCounter) -> bool {
         flag(sure(ffi::continuity_counter_follows(self.val, other.val)))
     }
+
+    /// What this counter is beside the last one of its PID: the one after it, as [`follows`](ContinuityCounter::follows) says, the same,
+    /// or neither.
+    ///
+    /// ```
+    /// use clomaverift::{Compared, ContinuityCounter};
+    ///
+    /// let last = ContinuityCounter::new(15)?;
+    /// assert_eq!(ContinuityCounter::new(0)?.compare(last), Compared::Next);
+    /// assert_eq!(ContinuityCounter::new(15)?.compare(last), Compared::Same);
+    /// assert_eq!(ContinuityCounter::new(1)?.compare(last), Compared::Jump);
+    /// # Ok::<(), clomaverift::Error>(())
+    /// ```
+    #[must_use]
+    #[inline]
+    pub fn compare(self, last: ContinuityCounter) -> Compared {
+        match sure(ffi::continuity_counter_compare(self.val, last.val)) {
+            [0] => Compared::Next,
+            [1] => Compared::Same,
+            _ => Compared::Jump,
+        }
+    }
+}
+
+/// What a continuity counter is beside the last one: [`ContinuityCounter::compare`].
+#[derive(Clone, Copy, Debug, PartialEq, Eq, Hash)]
+pub enum Compared {
+    /// The one after it; after 15 comes 0. A packet with payload has it.
+    Next,
+    /// The same. A packet without payload has it, and so has one with payload that is sent again.
+    Same,
+    /// Neither: packets are missing between the two.
+    Jump,
 }
 
 impl TryFrom<u8> for ContinuityCounter {
@@ -944,6 +977,22 @@ mod tests {
             assert_eq!(Pid::new(number), Pid::try_from(number));
         }
         assert_eq!([Pid::PAT, Pid::CAT, Pid::TSDT, Pid::STUFFING].map(u16::from), [0, 1, 2, 0x1FFF]);
+    }
+
+    #[test]
+    fn counters_beside_each_other() {
+        for (count, last) in (0..16).flat_map(|count| (0..16).map(move |last| (count, last))) {
+            let [counter, before] = [count, last].map(|number| ContinuityCounter::new(number).unwrap());
+            let expected = match (count + 16 - last) % 16 {
+                0 => Compared::Same,
+                1 => Compared::Next,
+                _ => Compared::Jump,
+            };
+            assert_eq!(counter.compare(before), expected, "{count} after {last}");
+            assert_eq!(counter.follows(before), expected == Compared::Next);
+        }
+        assert_eq!(ffi::continuity_counter_compare(16, 0), Err(Error::OutOfRange));
+        assert_eq!(ffi::continuity_counter_compare(0, 16), Err(Error::OutOfRange));
     }
 
     #[test]

@@ -1,10 +1,10 @@
-//! Damaged recordings of two PIDs: whatever the bytes, the driver finds the units that a plain reading of the events finds.
+//! Damaged recordings of two PIDs: whatever the bytes, the driver finds in both modes the units that a plain reading of the events finds.
 
-use clomaverift::{Demux, EventKind, Found, Machine, Marked, Packet, PesHeader, Pid};
+use clomaverift::{Demux, EventKind, Found, Machine, Marked, Mode, Packet, PesHeader, Pid};
 use std::collections::BTreeMap;
 
 const SAMPLE: &[u8] = include_bytes!(concat!(env!("CARGO_MANIFEST_DIR"), "/../../samples/sample.ts"));
-const RECORDINGS: u64 = 400;
+const RECORDINGS: u64 = 200;
 
 /// A unit: PID, first packet, payload.
 type Told = (u16, u64, Vec<u8>);
@@ -49,21 +49,35 @@ fn damaged(rng: &mut Rng) -> Vec<u8> {
     recording
 }
 
-fn found(recording: &[u8], how: Marked) -> (Vec<Told>, Vec<Told>) {
+/// How a recording is read.
+type How = (Mode, Marked);
+
+const WAYS: [How; 4] = [
+    (Mode::Crate, Marked::Drop),
+    (Mode::Crate, Marked::Take),
+    (Mode::Standard, Marked::Drop),
+    (Mode::Standard, Marked::Take),
+];
+
+fn found(recording: &[u8], (mode, marked): How) -> (Vec<Told>, Vec<Told>) {
     let (mut ended, mut open) = (Vec::new(), Vec::new());
     let told = |found: Found<'_>, units: &mut Vec<Told>| {
         if let Found::Unit(unit) = found {
             units.push((unit.pid.into(), unit.index, unit.payload.to_vec()));
         }
     };
-    let mut demux = Demux::new().marked(how);
+    let mut demux = Demux::new().mode(mode).marked(marked);
     demux.push(recording, |found| told(found, &mut ended));
     demux.finish(|found| told(found, &mut open));
     (ended, open)
 }
 
 /// The same by the events of a machine for each PID, and by the headers.
-fn plain(recording: &[u8], how: Marked) -> (Vec<Told>, Vec<Told>) {
+fn plain(recording: &[u8], (mode, marked): How) -> (Vec<Told>, Vec<Told>) {
+    let fresh = || match mode {
+        Mode::Standard => Machine::standard(),
+        _ => Machine::new(),
+    };
     let mut machines = BTreeMap::new();
     let mut open: BTreeMap<Pid, Told> = BTreeMap::new();
     let mut ended = Vec::new();
@@ -73,11 +87,11 @@ fn plain(recording: &[u8], how: Marked) -> (Vec<Told>, Vec<Told>) {
             Err(_) => continue,
         };
         let pid = packet.pid();
-        let marked = packet.transport_error_indicator() || packet.transport_scrambling_control().is_scrambled();
-        if pid == Pid::STUFFING || marked && how == Marked::Drop {
+        let is_marked = packet.transport_error_indicator() || packet.transport_scrambling_control().is_scrambled();
+        if pid == Pid::STUFFING || is_marked && marked == Marked::Drop {
             continue;
         }
-        let machine = machines.entry(pid).or_insert_with(Machine::new);
+        let machine = machines.entry(pid).or_insert_with(fresh);
         machine.rewind();
         let mut log = [0; 16];
         machine.step(bytes, &mut log).unwrap();
@@ -105,16 +119,18 @@ fn plain(recording: &[u8], how: Marked) -> (Vec<Told>, Vec<Told>) {
 
 #[test]
 fn units_are_those_of_a_plain_reading() {
-    let mut units = 0;
+    let mut units = [0; 4];
     for seed in 0..RECORDINGS {
         let recording = damaged(&mut Rng(seed));
-        for how in [Marked::Drop, Marked::Take] {
+        for (how, units) in WAYS.into_iter().zip(&mut units) {
             let told = found(&recording, how);
-            units += told.0.len() + told.1.len();
-            assert_eq!(told, plain(&recording, how), "seed {seed}");
+            *units += told.0.len() + told.1.len();
+            assert_eq!(told, plain(&recording, how), "seed {seed}, {how:?}");
         }
     }
-    assert!(units > 2 * RECORDINGS as usize, "only {units} units");
+    assert!(units.iter().all(|units| *units > RECORDINGS as usize), "only {units:?} units");
+    // A repeated packet breaks no unit there.
+    assert!(units[2] > units[0] && units[3] > units[1], "{units:?} units");
 }
 
 #[test]
@@ -123,7 +139,7 @@ fn bytes_that_are_no_recording() {
     for _ in 0..RECORDINGS {
         let mut bytes: Vec<u8> = (0..rng.below(2_000)).map(|_| rng.below(256) as u8).collect();
         bytes.chunks_mut(Packet::SIZE).for_each(|packet| packet[0] = 0x47);
-        for how in [Marked::Drop, Marked::Take] {
+        for how in WAYS {
             assert_eq!(found(&bytes, how), plain(&bytes, how));
         }
     }

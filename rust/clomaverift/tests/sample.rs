@@ -1,7 +1,7 @@
 //! The sample stream, of which tools/sample says what is in it: five units of video on one PID; after the second a packet with a clock
 //! reference alone; in the fourth a packet left out.
 
-use clomaverift::{ClockRef, Demux, EventKind, Found, Machine, Packet, Pid, Ran, Timestamp};
+use clomaverift::{ClockRef, Demux, EventKind, Found, Machine, Mode, Packet, Pid, Ran, Timestamp};
 
 const SAMPLE: &[u8] = include_bytes!(concat!(env!("CARGO_MANIFEST_DIR"), "/../../samples/sample.ts"));
 const PID: u16 = 0x100;
@@ -31,6 +31,7 @@ struct Seen {
     begins: Vec<u64>,
     breaks: Vec<u64>,
     clocks: Vec<(u64, ClockRef)>,
+    repeats: Vec<u64>,
     units: Vec<Told>,
 }
 
@@ -50,6 +51,7 @@ impl Seen {
             }
             Found::ContinuityError { index, .. } => self.breaks.push(index),
             Found::Clock { index, pcr, .. } => self.clocks.push((index, pcr)),
+            Found::Repeated { index, .. } => self.repeats.push(index),
             other => panic!("{other:?}"),
         }
     }
@@ -98,6 +100,40 @@ fn pieces_make_no_difference() {
             (whole.begins.clone(), whole.breaks.clone(), whole.clocks.clone())
         );
     }
+}
+
+/// What a driver in this mode finds in a recording.
+fn seen_in(mode: Mode, recording: &[u8]) -> Seen {
+    let mut seen = Seen::default();
+    let mut demux = Demux::new().mode(mode);
+    demux.push(recording, |found| seen.take(found));
+    demux.finish(|found| seen.take(found));
+    seen
+}
+
+#[test]
+fn each_packet_sent_twice() {
+    let twice: Vec<u8> = SAMPLE.chunks(Packet::SIZE).flat_map(|packet| [packet, packet].concat()).collect();
+    let (once, told) = (seen(PACKETS), seen_in(Mode::Standard, &twice));
+    let doubled = |indices: &[u64]| indices.iter().map(|index| 2 * index).collect::<Vec<_>>();
+    assert_eq!((told.starts, told.begins), (doubled(&once.starts), doubled(&once.begins)));
+    assert_eq!(told.breaks, [2 * BREAK]);
+    let units: Vec<_> =
+        told.units.into_iter().map(|(index, pts, dts, payload, ended)| (index / 2, pts, dts, payload, ended)).collect();
+    assert_eq!(units, once.units);
+    let clocks: Vec<_> =
+        once.clocks.iter().flat_map(|(index, pcr)| [(2 * index, *pcr), (2 * index + 1, *pcr)]).collect();
+    assert_eq!(told.clocks, clocks);
+    // The packet without payload goes on each time.
+    let repeats = (0..PACKETS as u64).filter(|index| *index != CLOCK_ALONE).map(|index| 2 * index + 1);
+    assert_eq!(told.repeats, repeats.collect::<Vec<_>>());
+
+    let breaks = seen_in(Mode::Crate, &twice).breaks;
+    assert_eq!(breaks.len(), PACKETS); // each repeat, and the sample's own
+    assert_eq!(
+        (seen_in(Mode::Standard, SAMPLE).units, seen_in(Mode::Standard, SAMPLE).breaks),
+        (once.units, once.breaks)
+    );
 }
 
 /// The events of a packet, as the rules say: what comes of the break and of the starts, and a continue for every other packet but that
