@@ -1,7 +1,7 @@
 #!/usr/bin/env bash
-# rust/cmv/test.sh [--store] : runs each sub-command of cmv on the sample, on a multiplex made from it, on noise, on an empty file, on a folder, into
-# a pipe that is closed and onto a full device, and holds its output, sentences and exit status against what is stored in tests/. The
-# program is built first, if need be.
+# rust/cmv/test.sh [--store] : runs each sub-command of cmv on the sample, on a multiplex made from it, on the sample with each packet sent
+# twice, on noise, on an empty file, on a folder, into a pipe that is closed and onto a full device, and holds its output, sentences and exit
+# status against what is stored in tests/. The program is built first, if need be.
 #   --store  store what the program prints now
 set -euo pipefail
 export LC_ALL=C
@@ -93,6 +93,44 @@ check_multiplex() {
     refuses "$scratch/multiplex: no packet of PID 0x0102" times "$scratch/multiplex" --pid 258
 }
 
+# The sample with each packet sent twice. By the standard it has what the sample has, at every second packet; as the original judges
+# counters, each repeat is a break.
+check_twice() {
+    python3 -B "$top/tools/python/twice.py" "$sample" "$scratch/twice"
+    prints "$stored/twice-summary.txt" summary "$scratch/twice"
+    prints "$stored/twice-standard-summary.txt" summary "$scratch/twice" --standard
+    prints "$stored/twice-standard-summary.json" summary "$scratch/twice" --standard --json
+    python3 -m json.tool "$scratch/out" >/dev/null || fail "summary --json is not JSON"
+    prints "$stored/twice-standard-times.csv" times "$scratch/twice" --standard --csv
+    diff <(summary_of_units "$scratch/twice" --standard) <(summary_of_units "$sample") || fail "the sample sent twice is summed up otherwise"
+    exits 0 events "$scratch/twice" --standard
+    diff <(awk 'NR > 1 { print $1 / 2, $3, $4, $5 }' "$scratch/out") <(awk 'NR > 1 { print $1, $3, $4, $5 }' "$stored/sample-events.txt") ||
+        fail "the sample sent twice has other events"
+    prints "$stored/sample-payload" payload "$scratch/twice" "${pid[@]}" --standard
+    exits 0 rewrite "$scratch/twice" "${pid[@]}" --standard
+    cp "$scratch/out" "$scratch/rewritten"
+    prints "$stored/rewritten-summary.txt" summary "$scratch/rewritten"
+    refuses_units "$scratch/twice"
+    exits 0 times "$scratch/twice" --standard --svg
+    grep -q '>break: 1<' "$scratch/out" || fail "the picture has other breaks"
+    prints "$stored/sample-events.txt" events "$sample" --standard
+}
+
+# The columns that do not count packets: units to first PCR.
+summary_of_units() { # FILE WORDS..
+    cmv summary "$@" --csv | cut -d, -f 1,3-9
+}
+
+# As the original judges counters no unit of it is whole.
+refuses_units() { # FILE
+    local name
+    for name in payload rewrite; do
+        exits 1 "$name" "$1" "${pid[@]}"
+        [ ! -s "$scratch/out" ] || fail "$name finds units"
+        grep -qx 'cmv: no unit was found' "$scratch/said" || fail "$name says something else: $(cat "$scratch/said")"
+    done
+}
+
 # Units that cannot be read (two headers without check bits) or written (a stream id without header fields).
 check_lost_units() {
     local name
@@ -148,6 +186,7 @@ check_usage() {
     for name in events times summary payload rewrite; do
         exits 0 "$name" --help
         grep -q '^Exit status: ' "$scratch/out" || fail "the help of $name does not tell the exit status"
+        grep -q -e '--standard .*: for stations that send packets twice$' "$scratch/out" || fail "the help of $name does not tell of --standard"
         exits 2 "$name"
         exits 2 "$name" "$sample" --pid 8192
         exits 2 "$name" "$sample" --pid 0x
@@ -170,7 +209,7 @@ check_progress() {
 # Side by side, for on Arm most of the time is the emulator's start, and there is one for each run of the program.
 check_all() {
     local name job jobs=() failed=0
-    for name in sample multiplex lost_units bad_input output_errors usage progress; do
+    for name in sample multiplex twice lost_units bad_input output_errors usage progress; do
         (
             scratch=$scratch/$name
             mkdir "$scratch"

@@ -3,7 +3,7 @@
 use crate::input::Failure;
 use crate::options::Options;
 use crate::table::{standard_output, Cell, Column, Form, Table};
-use clomaverift::{EventKind, Machine, Packet, Pid};
+use clomaverift::{EventKind, Packet, Pid};
 use std::io::Write;
 
 const COLUMNS: &[Column] = &[
@@ -37,7 +37,7 @@ fn taken(packet: &Packet<'_>, chosen: Option<Pid>) -> bool {
 }
 
 pub fn run(options: Options) -> Result<(), Failure> {
-    let mut machines = vec![Machine::new(); Pid::PID_COUNT];
+    let mut machines = vec![options.machine(); Pid::PID_COUNT];
     let mut table = Table::begin(standard_output(), options.form, COLUMNS, false)?;
     let pid = options.pid;
     let tally = options.input.each(|index, bytes, packet| {

@@ -3,7 +3,7 @@
 use crate::input::{Failure, Input};
 use crate::table::Form;
 use clap::{value_parser, Arg, ArgAction, ArgMatches, Command};
-use clomaverift::{Demux, Marked, Pid};
+use clomaverift::{Demux, Machine, Marked, Mode, Pid};
 use std::path::PathBuf;
 
 const STATUS: &str =
@@ -11,15 +11,21 @@ const STATUS: &str =
 
 const MARKED: &str = "Packets that are marked as scrambled or damaged are dropped.";
 
+const STANDARD: &str = "\
+With --standard a packet that repeats the one before on its PID is dropped, and one that announces a discontinuity is no
+break. Without it, counters are judged as by the Rust crate mpeg2ts-reader, and both are breaks.";
+
 const EVENTS: &str = "\
 Events: start (first packet with the start flag), begin (of a unit), continue, end (of the unit before), error (the
 continuity counter breaks). Offset and length are those of the payload in its packet.";
 
-const TIMES: &str = "PTS and DTS are printed in ticks of 90 kHz, PCR in ticks of 27 MHz. The picture shows all PIDs alike: --pid chooses one.";
+const TIMES: &str = "\
+PTS and DTS are printed in ticks of 90 kHz, PCR in ticks of 27 MHz. The PCR of a packet that is dropped as a repeat is
+printed too. The picture shows all PIDs alike: --pid chooses one.";
 
 const SUMMARY: &str = "\
 Units are those that were read whole; the last one of a PID ends with the recording. Breaks are packets whose continuity
-counter does not follow the one before.";
+counter does not follow the one before. With --standard there is one column more, the packets dropped as repeats.";
 
 const PAYLOAD: &str = "A unit that a break cuts off is left out.";
 
@@ -32,6 +38,7 @@ bytes, or one whose stream id has no header fields.";
 pub struct Options {
     pub input: Input,
     pub pid: Option<Pid>,
+    pub mode: Mode,
     pub form: Form,
     pub seconds: bool,
     pub svg: bool,
@@ -46,14 +53,22 @@ impl Options {
             (_, true) => Form::Csv,
             _ => Form::Text,
         };
+        let mode = if flag("standard") { Mode::Standard } else { Mode::Crate };
         let path = matches.get_one::<PathBuf>("FILE").expect("clap asks for the file");
         let input = Input::open(path, pid)?;
-        Ok(Options { input, pid, form, seconds: flag("seconds"), svg: flag("svg") })
+        Ok(Options { input, pid, mode, form, seconds: flag("seconds"), svg: flag("svg") })
+    }
+
+    /// Before the first packet of a PID.
+    pub fn machine(&self) -> Machine {
+        let mut machine = Machine::new();
+        machine.set_mode(self.mode);
+        machine
     }
 
     /// Of the PID chosen, or of all but stuffing. Packets that are dropped are reported.
     pub fn demux(&self) -> Demux {
-        let demux = Demux::new().marked(Marked::Report);
+        let demux = Demux::new().mode(self.mode).marked(Marked::Report);
         match self.pid {
             Some(pid) => demux.only(&[pid]),
             None => demux,
@@ -90,9 +105,10 @@ fn sub_command(name: &'static str, about: &'static str, notes: &str) -> Command 
     let pid = Arg::new("pid").long("pid").value_name("PID").value_parser(parse_pid);
     Command::new(name)
         .about(about)
-        .after_help(format!("{notes}\n{MARKED}\n\n{STATUS}"))
+        .after_help(format!("{notes}\n{MARKED}\n{STANDARD}\n\n{STATUS}"))
         .arg(file.help("The recording; - is standard input"))
         .arg(pid.help("This PID alone, in hexadecimal (0x100) or decimal (256)"))
+        .arg(flag("standard", "Judge continuity counters by the standard: for stations that send packets twice"))
 }
 
 fn with_forms(command: Command) -> Command {

@@ -4,10 +4,11 @@ use crate::input::{counted, Failure, Tally};
 use crate::options::Options;
 use crate::table::{standard_output, Cell, Column, Form, Table};
 use crate::times::timestamps;
-use clomaverift::{ClockRef, Found, Mark, Pid, Timestamp};
+use clomaverift::{ClockRef, Found, Mark, Mode, Pid, Timestamp};
 use std::collections::BTreeMap;
 use std::io::{self, Write};
 
+/// The last one is there in the standard mode alone: in the other one no packet is dropped as a repeat.
 const COLUMNS: &[Column] = &[
     Column::new("pid", 6),
     Column::new("packets", 10),
@@ -18,7 +19,15 @@ const COLUMNS: &[Column] = &[
     Column::of_times("first_pts", 13),
     Column::of_times("last_pts", 13),
     Column::of_times("first_pcr", 15),
+    Column::new("repeated", 10),
 ];
+
+fn columns(mode: Mode) -> &'static [Column] {
+    match mode {
+        Mode::Standard => COLUMNS,
+        _ => &COLUMNS[..COLUMNS.len() - 1],
+    }
+}
 
 /// What was found of a PID.
 #[derive(Default)]
@@ -28,6 +37,7 @@ struct Row {
     breaks: u64,
     scrambled: u64,
     damaged: u64,
+    repeated: u64,
     given_up: u64,
     first_pts: Option<Timestamp>,
     last_pts: Option<Timestamp>,
@@ -35,7 +45,7 @@ struct Row {
 }
 
 impl Row {
-    fn cells(&self, pid: Pid, seconds: bool) -> [Cell; 9] {
+    fn cells(&self, pid: Pid, seconds: bool) -> [Cell; COLUMNS.len()] {
         [
             Cell::Pid(pid),
             Cell::Number(self.packets),
@@ -46,6 +56,7 @@ impl Row {
             Cell::timestamp(self.first_pts, seconds),
             Cell::timestamp(self.last_pts, seconds),
             Cell::clock(self.first_pcr, seconds),
+            Cell::Number(self.repeated),
         ]
     }
 }
@@ -59,6 +70,7 @@ fn found(rows: &mut Rows, found: Found<'_>) {
         Found::StoreFull { pid, .. } => rows.entry(pid).or_default().given_up += 1,
         Found::Dropped { pid, mark: Mark::Scrambled, .. } => rows.entry(pid).or_default().scrambled += 1,
         Found::Dropped { pid, .. } => rows.entry(pid).or_default().damaged += 1,
+        Found::Repeated { pid, .. } => rows.entry(pid).or_default().repeated += 1,
         Found::Clock { pid, pcr, .. } => {
             rows.entry(pid).or_default().first_pcr.get_or_insert(pcr);
         }
@@ -72,7 +84,7 @@ fn found(rows: &mut Rows, found: Found<'_>) {
     }
 }
 
-fn words(out: &mut impl Write, tally: &Tally, rows: &Rows) -> io::Result<()> {
+fn words(out: &mut impl Write, tally: &Tally, rows: &Rows, mode: Mode) -> io::Result<()> {
     let sum = |of: fn(&Row) -> u64| rows.values().map(of).sum::<u64>();
     let packets = counted(sum(|row| row.packets), "packet", "packets");
     writeln!(
@@ -87,6 +99,12 @@ fn words(out: &mut impl Write, tally: &Tally, rows: &Rows) -> io::Result<()> {
         "{units} read whole; {} in the continuity counters.",
         counted(sum(|row| row.breaks), "break", "breaks")
     )?;
+    match (mode, sum(|row| row.repeated)) {
+        (Mode::Standard, 0) => writeln!(out, "No packet repeats the one before."),
+        (Mode::Standard, 1) => writeln!(out, "1 packet repeats the one before: dropped."),
+        (Mode::Standard, repeated) => writeln!(out, "{repeated} packets repeat the one before: dropped."),
+        _ => Ok(()),
+    }?;
     match (sum(|row| row.scrambled), sum(|row| row.damaged)) {
         (0, 0) => writeln!(out, "No packet is marked as scrambled or damaged."),
         (scrambled, damaged) => {
@@ -106,7 +124,7 @@ fn words(out: &mut impl Write, tally: &Tally, rows: &Rows) -> io::Result<()> {
 }
 
 pub fn run(options: Options) -> Result<(), Failure> {
-    let (chosen, form, seconds) = (options.pid, options.form, options.seconds);
+    let (chosen, mode, form, seconds) = (options.pid, options.mode, options.form, options.seconds);
     let mut demux = options.demux();
     let mut rows = Rows::new();
     let tally = options.input.each(|_, bytes, packet| {
@@ -121,15 +139,16 @@ pub fn run(options: Options) -> Result<(), Failure> {
 
     let mut out = standard_output();
     match form {
-        Form::Text => words(&mut out, &tally, &rows)?,
+        Form::Text => words(&mut out, &tally, &rows, mode)?,
         Form::Csv => (),
         Form::Json => {
             let (packets, refused) = (tally.packets - tally.refused, tally.refused);
             write!(out, "{{\"packets\":{packets},\"refused\":{refused},\"bytes\":{},\"pids\":", tally.bytes)?;
         }
     }
-    let mut table = Table::begin(out, form, COLUMNS, seconds)?;
-    rows.iter().try_for_each(|(pid, row)| table.row(&row.cells(*pid, seconds)))?;
+    let columns = columns(mode);
+    let mut table = Table::begin(out, form, columns, seconds)?;
+    rows.iter().try_for_each(|(pid, row)| table.row(&row.cells(*pid, seconds)[..columns.len()]))?;
     let mut out = table.end()?;
     if form == Form::Json {
         writeln!(out, "}}")?;
