@@ -356,4 +356,5 @@ def main(words):
     sys.exit(0 if tally.cells and tally.differ == 0 else 1)
 
 
-main(sys.argv[1:])
+if __name__ == "__main__":
+    main(sys.argv[1:])
