@@ -13,8 +13,7 @@ use Rattle.machine.specs.declared.Phase.the-variants.{Started}
 use Rattle.machine.specs.declared.Last.{Last}
 use Rattle.machine.specs.declared.Repeat.{Repeat}
 use Rattle.machine.specs.declared.Repeat.the-variants.{Open, Barred}
-use Rattle.machine.specs.declared.Continuity.{Continuity}
-use Rattle.machine.specs.declared.Continuity.the-variants.{GoesOn, Repeats, Breaks}
+use Rattle.machine.specs.declared.Continuity.the-variants.{GoesOn, Breaks}
 use Rattle.machine.specs.Events.{State, state, continuity, rest, eventsBy, eventsOf, phaseBy, lastBy, againBy, next, run}
 use Rattle.machine.specs.Original.{continuous, broken, settled, originalEvents, originalPhase, originalLast, originalRun}
 use Rattle.machine.proofs.Counters.{in-order-on, judged-crate}

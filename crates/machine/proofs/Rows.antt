@@ -1,7 +1,7 @@
 -- What a row stands for, in each case.
 -- Assumes nothing.
 use mathlib.Core.Path.{_≡_, refl, sym, ap, _∙_}
-use mathlib.Core.Bool.{Bool, true, false, _||_}
+use mathlib.Core.Bool.{Bool, true, false}
 use mathlib.Core.List.{List, [], _∷_}
 use Prim.Native.Nat.{ℕ, _≤_, _<_}
 use native.Mathlib.Omega.{arith}
@@ -42,7 +42,16 @@ use Rattle.machine.specs.Row.{modeNumber, phaseNumber, lastNumber, again
 
 -- ---- a number that is read stands for nothing, or for a value
 
--- mode
+-- of any type that has the two cases, by functions that tell them apart
+module _ {A R : Type 0} (is : A → R) (stray : R) (strays : R → Bool) (value : A → R → A) (apart : (v : A) → strays (is v) ≡ false)
+    (there : strays stray ≡ true) (kept : (d v : A) → value d (is v) ≡ v) where
+  read-strays : (b : Bool) (v : A) (r : R) → strays r ≡ true → r ≡ pick b stray (is v) → b ≡ true
+  read-strays true v r t e = refl
+  read-strays false v r t e = false-true (sym (ap strays e ∙ apart v) ∙ t)
+
+  read-stands : (b : Bool) (v w : A) → is w ≡ pick b stray (is v) → (b ≡ false) × (w ≡ v)
+  read-stands true v w e = false-true (sym (apart w) ∙ (ap strays e ∙ there))
+  read-stands false v w e = (refl, sym (kept v w) ∙ (ap (value v) e ∙ kept v v))
 
 modeStrays : ModeRead → Bool
 modeStrays (ModeRead.Is v) = false
@@ -54,23 +63,16 @@ modeValue d ModeRead.Stray = d
 
 module _ (n : ℕ) (r : ModeRead) (e : r ≡ modeRead n) where
   mode-strays : OneOf (1 ∷ []) (tagOf mode-type r) → ltb 1 n ≡ true
-  unfolding modeStrays
-  mode-strays t = go (ltb 1 n) r t e
+  unfolding modeStrays modeValue
+  mode-strays t = read-strays ModeRead.Is ModeRead.Stray modeStrays modeValue (λ v. refl) refl (λ d v. refl) (ltb 1 n) (modeOf n) r (go r t) e
     where
-      go : (b : Bool) (r : ModeRead) → OneOf (1 ∷ []) (tagOf mode-type r) → r ≡ pick b ModeRead.Stray (ModeRead.Is (modeOf n)) → b ≡ true
-      go true r t e = refl
-      go false (ModeRead.Is v) t e = absurd (omega arith)
-      go false ModeRead.Stray t e = false-true (sym (ap modeStrays e))
+      go : (r : ModeRead) → OneOf (1 ∷ []) (tagOf mode-type r) → modeStrays r ≡ true
+      go (ModeRead.Is v) t = absurd (omega arith)
+      go ModeRead.Stray t = refl
 
   mode-stands : (v : Mode) → r ≡ ModeRead.Is v → (ltb 1 n ≡ false) × (v ≡ modeOf n)
   unfolding modeStrays modeValue
-  mode-stands v f = go (ltb 1 n) (sym f ∙ e)
-    where
-      go : (b : Bool) → ModeRead.Is v ≡ pick b ModeRead.Stray (ModeRead.Is (modeOf n)) → (b ≡ false) × (v ≡ modeOf n)
-      go true e = false-true (ap modeStrays e)
-      go false e = (refl, ap (modeValue v) e)
-
--- phase
+  mode-stands v f = read-stands ModeRead.Is ModeRead.Stray modeStrays modeValue (λ v. refl) refl (λ d v. refl) (ltb 1 n) (modeOf n) v (sym f ∙ e)
 
 phaseStrays : PhaseRead → Bool
 phaseStrays (PhaseRead.Is v) = false
@@ -82,23 +84,16 @@ phaseValue d PhaseRead.Stray = d
 
 module _ (n : ℕ) (r : PhaseRead) (e : r ≡ phaseRead n) where
   phase-strays : OneOf (1 ∷ []) (tagOf phase-type r) → ltb 2 n ≡ true
-  unfolding phaseStrays
-  phase-strays t = go (ltb 2 n) r t e
+  unfolding phaseStrays phaseValue
+  phase-strays t = read-strays PhaseRead.Is PhaseRead.Stray phaseStrays phaseValue (λ v. refl) refl (λ d v. refl) (ltb 2 n) (phaseOf n) r (go r t) e
     where
-      go : (b : Bool) (r : PhaseRead) → OneOf (1 ∷ []) (tagOf phase-type r) → r ≡ pick b PhaseRead.Stray (PhaseRead.Is (phaseOf n)) → b ≡ true
-      go true r t e = refl
-      go false (PhaseRead.Is v) t e = absurd (omega arith)
-      go false PhaseRead.Stray t e = false-true (sym (ap phaseStrays e))
+      go : (r : PhaseRead) → OneOf (1 ∷ []) (tagOf phase-type r) → phaseStrays r ≡ true
+      go (PhaseRead.Is v) t = absurd (omega arith)
+      go PhaseRead.Stray t = refl
 
   phase-stands : (v : Phase) → r ≡ PhaseRead.Is v → (ltb 2 n ≡ false) × (v ≡ phaseOf n)
   unfolding phaseStrays phaseValue
-  phase-stands v f = go (ltb 2 n) (sym f ∙ e)
-    where
-      go : (b : Bool) → PhaseRead.Is v ≡ pick b PhaseRead.Stray (PhaseRead.Is (phaseOf n)) → (b ≡ false) × (v ≡ phaseOf n)
-      go true e = false-true (ap phaseStrays e)
-      go false e = (refl, ap (phaseValue v) e)
-
--- last
+  phase-stands v f = read-stands PhaseRead.Is PhaseRead.Stray phaseStrays phaseValue (λ v. refl) refl (λ d v. refl) (ltb 2 n) (phaseOf n) v (sym f ∙ e)
 
 lastStrays : LastRead → Bool
 lastStrays (LastRead.Is v) = false
@@ -110,23 +105,16 @@ lastValue d LastRead.Stray = d
 
 module _ (n : ℕ) (r : LastRead) (e : r ≡ lastRead n) where
   last-strays : OneOf (1 ∷ []) (tagOf last-type r) → noLast n ≡ true
-  unfolding lastStrays
-  last-strays t = go (noLast n) r t e
+  unfolding lastStrays lastValue
+  last-strays t = read-strays LastRead.Is LastRead.Stray lastStrays lastValue (λ v. refl) refl (λ d v. refl) (noLast n) (lastOf n) r (go r t) e
     where
-      go : (b : Bool) (r : LastRead) → OneOf (1 ∷ []) (tagOf last-type r) → r ≡ pick b LastRead.Stray (LastRead.Is (lastOf n)) → b ≡ true
-      go true r t e = refl
-      go false (LastRead.Is v) t e = absurd (omega arith)
-      go false LastRead.Stray t e = false-true (sym (ap lastStrays e))
+      go : (r : LastRead) → OneOf (1 ∷ []) (tagOf last-type r) → lastStrays r ≡ true
+      go (LastRead.Is v) t = absurd (omega arith)
+      go LastRead.Stray t = refl
 
   last-stands : (v : Last) → r ≡ LastRead.Is v → (noLast n ≡ false) × (v ≡ lastOf n)
   unfolding lastStrays lastValue
-  last-stands v f = go (noLast n) (sym f ∙ e)
-    where
-      go : (b : Bool) → LastRead.Is v ≡ pick b LastRead.Stray (LastRead.Is (lastOf n)) → (b ≡ false) × (v ≡ lastOf n)
-      go true e = false-true (ap lastStrays e)
-      go false e = (refl, ap (lastValue v) e)
-
--- again
+  last-stands v f = read-stands LastRead.Is LastRead.Stray lastStrays lastValue (λ v. refl) refl (λ d v. refl) (noLast n) (lastOf n) v (sym f ∙ e)
 
 againStrays : AgainRead → Bool
 againStrays (AgainRead.Is v) = false
@@ -138,21 +126,16 @@ againValue d AgainRead.Stray = d
 
 module _ (n : ℕ) (r : AgainRead) (e : r ≡ againRead n) where
   again-strays : OneOf (1 ∷ []) (tagOf again-type r) → ltb 2 n ≡ true
-  unfolding againStrays
-  again-strays t = go (ltb 2 n) r t e
+  unfolding againStrays againValue
+  again-strays t = read-strays AgainRead.Is AgainRead.Stray againStrays againValue (λ v. refl) refl (λ d v. refl) (ltb 2 n) (againOf n) r (go r t) e
     where
-      go : (b : Bool) (r : AgainRead) → OneOf (1 ∷ []) (tagOf again-type r) → r ≡ pick b AgainRead.Stray (AgainRead.Is (againOf n)) → b ≡ true
-      go true r t e = refl
-      go false (AgainRead.Is v) t e = absurd (omega arith)
-      go false AgainRead.Stray t e = false-true (sym (ap againStrays e))
+      go : (r : AgainRead) → OneOf (1 ∷ []) (tagOf again-type r) → againStrays r ≡ true
+      go (AgainRead.Is v) t = absurd (omega arith)
+      go AgainRead.Stray t = refl
 
   again-stands : (v : Repeat) → r ≡ AgainRead.Is v → (ltb 2 n ≡ false) × (v ≡ againOf n)
   unfolding againStrays againValue
-  again-stands v f = go (ltb 2 n) (sym f ∙ e)
-    where
-      go : (b : Bool) → AgainRead.Is v ≡ pick b AgainRead.Stray (AgainRead.Is (againOf n)) → (b ≡ false) × (v ≡ againOf n)
-      go true e = false-true (ap againStrays e)
-      go false e = (refl, ap (againValue v) e)
+  again-stands v f = read-stands AgainRead.Is AgainRead.Stray againStrays againValue (λ v. refl) refl (λ d v. refl) (ltb 2 n) (againOf n) v (sym f ∙ e)
 
 -- a number above all that stand for something
 pub mode-high : (n : ℕ) → (n ≡ 0 → ⊥) → (n ≡ 1 → ⊥) → ModeRead.Stray ≡ modeRead n
