@@ -535,12 +535,12 @@ enum {
     CMV_MACHINE_SIZE = 6 /* how many numbers the row has */
 };
 
-/* A start is a packet whose payload_unit_start_indicator is 1, a break one whose counter is not the expected one: the next modulo 16 if
-   the packet has the payload flag, else the last again. In mode 1 a packet with the payload flag that has the last counter again is no
-   break but a repeat if AGAIN is 1: it is taken, and dropped without an event. A packet whose adaptation field has the
-   discontinuity_indicator is then neither a break nor a repeat. MODE may be changed between two packets. The log is a slice of bytes, of
-   which an event takes 8. A packet gives at most two events, so that 16 free bytes are enough for one packet. Once its events are read
-   the log can be used again: set PLACE to 0. */
+/* A start is a packet whose payload_unit_start_indicator is 1. A break is one whose counter is not the expected one: the next modulo 16
+   if the packet has the payload flag, else the last again. In mode 1 a packet whose adaptation field has the discontinuity_indicator is
+   neither a break nor a repeat. Any other one that has the payload flag and the last counter again is a repeat and no break if AGAIN is
+   1: it counts as taken and gives no event. MODE may be changed between two packets. The log is a slice of bytes, of which an event
+   takes 8. A packet gives at most two events, so that 16 free bytes are enough for one packet. Once its events are read the log can be
+   used again: set PLACE to 0. */
 
 /* The kinds of events. */
 enum {
