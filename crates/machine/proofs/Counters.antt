@@ -36,7 +36,7 @@ use Rattle.machine.specs.declared.Repeat.the-variants.{Barred, Open, Spe
 use Rattle.machine.specs.declared.Continuity.{Continuity}
 use Rattle.machine.specs.declared.Continuity.the-variants.{GoesOn, Repeats, Breaks}
 use Rattle.machine.proofs.Continuity.{the-type as continuity-type}
-use Rattle.machine.specs.Events.{asCounter, repeated, judged, counted, discontinuity, excused, continuityBy, againBy}
+use Rattle.machine.specs.Events.{asCounter, repeated, judged, byCounter, discontinuity, excused, continuityBy, againBy}
 use Rattle.machine.specs.Original.{continuous}
 
 -- ---- the tables, by what the counter and the payload flag say
@@ -63,28 +63,28 @@ judged-off mo r false false true e = false-true (sym e)
 judged-off mo r false false false e = refl
 
 module _ (mo : Mode) (r : Repeat) (p : List ℕ) where
-  counted-on : (l : Last) → continuous l p ≡ true → counted mo l r p ≡ GoesOn
+  by-counter-on : (l : Last) → continuous l p ≡ true → byCounter mo l r p ≡ GoesOn
   unfolding continuous compare
-  counted-on Nothing e = refl
-  counted-on (At c) e =
+  by-counter-on Nothing e = refl
+  by-counter-on (At c) e =
       judged-on mo r (payloadFlag p) (follows (counterField p) (c .val)) (eqb (counterField p) (c .val)) (apart (counterField p) (c .val)) e
 
-  counted-off : (c : ContinuityCounter) → continuous (At c) p ≡ false
-      → counted mo (At c) r p ≡ pick (payloadFlag p) (pick (eqb (counterField p) (c .val)) (repeated mo r) Breaks) Breaks
+  by-counter-off : (c : ContinuityCounter) → continuous (At c) p ≡ false
+      → byCounter mo (At c) r p ≡ pick (payloadFlag p) (pick (eqb (counterField p) (c .val)) (repeated mo r) Breaks) Breaks
   unfolding continuous compare
-  counted-off c e = judged-off mo r (payloadFlag p) (follows (counterField p) (c .val)) (eqb (counterField p) (c .val)) e
+  by-counter-off c e = judged-off mo r (payloadFlag p) (follows (counterField p) (c .val)) (eqb (counterField p) (c .val)) e
 
   -- without the payload flag it is a break
-  counted-alone : (l : Last) → continuous l p ≡ false → payloadFlag p ≡ false → counted mo l r p ≡ Breaks
+  by-counter-alone : (l : Last) → continuous l p ≡ false → payloadFlag p ≡ false → byCounter mo l r p ≡ Breaks
   unfolding continuous
-  counted-alone Nothing e f = false-true (sym e)
-  counted-alone (At c) e f = counted-off c e ∙ rw f
+  by-counter-alone Nothing e f = false-true (sym e)
+  by-counter-alone (At c) e f = by-counter-off c e ∙ rw f
 
 -- in the crate's mode it is a break
-crate-off : (r : Repeat) (p : List ℕ) (l : Last) → continuous l p ≡ false → counted Crate l r p ≡ Breaks
+crate-off : (r : Repeat) (p : List ℕ) (l : Last) → continuous l p ≡ false → byCounter Crate l r p ≡ Breaks
 unfolding continuous
 crate-off r p Nothing e = false-true (sym e)
-crate-off r p (At c) e = counted-off Crate r p c e ∙ go (payloadFlag p) (eqb (counterField p) (c .val))
+crate-off r p (At c) e = by-counter-off Crate r p c e ∙ go (payloadFlag p) (eqb (counterField p) (c .val))
   where
     go : (f s : Bool) → pick f (pick s Breaks Breaks) Breaks ≡ Breaks
     go true true = refl
@@ -94,14 +94,14 @@ crate-off r p (At c) e = counted-off Crate r p c e ∙ go (payloadFlag p) (eqb (
 -- ---- a packet in a state
 
 -- one that both tables let go on, whatever its discontinuity bit
-on-anyway : (mo : Mode) (l : Last) (r : Repeat) (p : List ℕ) → counted mo l r p ≡ GoesOn → continuityBy mo l r p ≡ GoesOn
+on-anyway : (mo : Mode) (l : Last) (r : Repeat) (p : List ℕ) → byCounter mo l r p ≡ GoesOn → continuityBy mo l r p ≡ GoesOn
 unfolding continuityBy
 on-anyway mo l r p h = ap (pick (excused mo p) GoesOn) h ∙ pick-same (excused mo p) GoesOn
 
 module _ (mo : Mode) (l : Last) (r : Repeat) (p : List ℕ) where
   -- WHAT IS IN ORDER GOES ON IN BOTH MODES
   pub in-order-on : continuous l p ≡ true → continuityBy mo l r p ≡ GoesOn
-  in-order-on h = on-anyway mo l r p (counted-on mo r p l h)
+  in-order-on h = on-anyway mo l r p (by-counter-on mo r p l h)
 
   -- so does what has no last counter before it
   pub on-first : l ≡ Nothing → continuityBy mo l r p ≡ GoesOn
@@ -134,13 +134,13 @@ module _ (l : Last) (r : Repeat) (p : List ℕ) (out : continuous l p ≡ false)
   out-excused h = rw (sym e ∙ h)
 
   module _ (h₁ : d ≡ false) where
-    left-counted : continuityBy Standard l r p ≡ counted Standard l r p
+    left-by-counter : continuityBy Standard l r p ≡ byCounter Standard l r p
     unfolding continuityBy
-    left-counted = rw (sym e ∙ h₁)
+    left-by-counter = rw (sym e ∙ h₁)
 
     module _ (f : Bool) (g : f ≡ payloadFlag p) where
       pub out-alone : not f ≡ true → Breaks ≡ continuityBy Standard l r p
-      out-alone h = sym (left-counted ∙ counted-alone Standard r p l out (sym g ∙ not-true f h))
+      out-alone h = sym (left-by-counter ∙ by-counter-alone Standard r p l out (sym g ∙ not-true f h))
 
       -- none is always in order
       pub out-none : l ≡ Nothing → GoesOn ≡ continuityBy Standard l r p
@@ -152,7 +152,7 @@ module _ (l : Last) (r : Repeat) (p : List ℕ) (out : continuous l p ≡ false)
         left-same =
             let k : eqb (counterField p) (c .val) ≡ s = sym (i ∙ same-equal (counterField p) (c .val)) in
             let o : continuous (At c) p ≡ false = rw at at out in
-            left-counted ∙ (ap (λ (x : Last). counted Standard x r p) at ∙ (counted-off Standard r p c o ∙ rw (sym g ∙ not-false f h₂, k)))
+            left-by-counter ∙ (ap (λ (x : Last). byCounter Standard x r p) at ∙ (by-counter-off Standard r p c o ∙ rw (sym g ∙ not-false f h₂, k)))
 
         pub out-same : s ≡ true → (k : Continuity) → k ≡ repeated Standard r → k ≡ continuityBy Standard l r p
         out-same h k j = j ∙ sym (left-same ∙ rw h)
@@ -278,16 +278,16 @@ same-alone mo r false true b h = false-true (ap is-repeat h)
 same-alone mo r false false true h = false-true (ap is-repeat h)
 same-alone mo r false false false h = false-true (ap is-repeat h)
 
-counted-same : (mo : Mode) (l : Last) (r : Repeat) (p : List ℕ) → counted mo l r p ≡ Repeats → l ≡ At (asCounter (counterField p))
+by-counter-same : (mo : Mode) (l : Last) (r : Repeat) (p : List ℕ) → byCounter mo l r p ≡ Repeats → l ≡ At (asCounter (counterField p))
 unfolding compare is-repeat
-counted-same mo Nothing r p h = false-true (ap is-repeat h)
-counted-same mo (At c) r p h =
+by-counter-same mo Nothing r p h = false-true (ap is-repeat h)
+by-counter-same mo (At c) r p h =
     ap (λ (n : ℕ). At (asCounter n))
     (sym (eqb-true (counterField p) (c .val) (same-alone mo r (payloadFlag p) (follows (counterField p) (c .val)) (eqb (counterField p) (c .val)) h)))
 
 pub repeat-last : (mo : Mode) (l : Last) (r : Repeat) (p : List ℕ) → continuityBy mo l r p ≡ Repeats → l ≡ At (asCounter (counterField p))
 unfolding continuityBy is-repeat
-repeat-last mo l r p h = counted-same mo l r p (go (excused mo p) (counted mo l r p) h)
+repeat-last mo l r p h = by-counter-same mo l r p (go (excused mo p) (byCounter mo l r p) h)
   where
     go : (b : Bool) (c : Continuity) → pick b GoesOn c ≡ Repeats → c ≡ Repeats
     go true c z = false-true (ap is-repeat z)

@@ -36,14 +36,14 @@ S c = 0x47 ∷ 0x41 ∷ 0 ∷ (0x10 + c) ∷ 0 ∷ 0 ∷ 1 ∷ 0xE0 ∷ replicat
 abbrev pub F : ℕ → List ℕ
 F c = 0x47 ∷ 1 ∷ 0 ∷ (0x30 + c) ∷ 183 ∷ 0x80 ∷ replicate 182 0xFF
 
-pub record Row : Type 0 where
+pub record Corner : Type 0 where
   pub from : State
   pub packets : List (List ℕ)
   pub judged : List Continuity
   pub kinds : List (List ℕ)
 
-abbrev pub row : State → List (List ℕ) → List Continuity → List (List ℕ) → Row
-row s ps cs ks = record { from = s; packets = ps; judged = cs; kinds = ks }
+abbrev pub corner : State → List (List ℕ) → List Continuity → List (List ℕ) → Corner
+corner s ps cs ks = record { from = s; packets = ps; judged = cs; kinds = ks }
 
 abbrev pub kind : Event → ℕ
 kind e = e .kind
@@ -52,36 +52,36 @@ unfoldable pub kindsOf : ℕ → State → List (List ℕ) → List (List ℕ)
 kindsOf i s [] = []
 kindsOf i s (p ∷ ps) = map kind (eventsOf i s p) ∷ kindsOf (suc i) (next s p) ps
 
-abbrev pub Holds : Row → Type 0
+abbrev pub Holds : Corner → Type 0
 Holds r = (continuities (r .from) (r .packets) ≡ r .judged) × (kindsOf 0 (r .from) (r .packets) ≡ r .kinds)
 
 abbrev pub std : State
 std = first Standard
 
 -- StartStream 1, BeginPacket 2, ContinuePacket 3, EndPacket 4, ContinuityError 5
-abbrev pub corners : List Row
+abbrev pub corners : List Corner
 corners =
-    row std (P 5 ∷ P 5 ∷ P 5 ∷ P 5 ∷ P 5 ∷ []) (GoesOn ∷ Repeats ∷ Breaks ∷ Repeats ∷ Breaks ∷ []) ([] ∷ [] ∷ (5 ∷ []) ∷ [] ∷ (5 ∷ []) ∷ [])
-    ∷ row std (P 5 ∷ A 5 ∷ P 5 ∷ []) (GoesOn ∷ GoesOn ∷ Breaks ∷ []) ([] ∷ [] ∷ (5 ∷ []) ∷ [])
-    ∷ row std (A 5 ∷ P 5 ∷ []) (GoesOn ∷ Breaks ∷ []) ([] ∷ (5 ∷ []) ∷ [])
-    ∷ row std (P 5 ∷ P 5 ∷ P 6 ∷ P 6 ∷ []) (GoesOn ∷ Repeats ∷ GoesOn ∷ Repeats ∷ []) ([] ∷ [] ∷ [] ∷ [] ∷ [])
-    ∷ row std (P 5 ∷ D 9 ∷ P 9 ∷ P 10 ∷ []) (GoesOn ∷ GoesOn ∷ Repeats ∷ GoesOn ∷ []) ([] ∷ [] ∷ [] ∷ [] ∷ [])
-    ∷ row std (P 5 ∷ D 5 ∷ []) (GoesOn ∷ GoesOn ∷ []) ([] ∷ [] ∷ [])
-    ∷ row std (P 5 ∷ P 5 ∷ A 5 ∷ P 5 ∷ []) (GoesOn ∷ Repeats ∷ GoesOn ∷ Breaks ∷ []) ([] ∷ [] ∷ [] ∷ (5 ∷ []) ∷ [])
-    ∷ row std (P 5 ∷ S 5 ∷ []) (GoesOn ∷ Repeats ∷ []) ([] ∷ [] ∷ [])
-    ∷ row std (P 5 ∷ P 5 ∷ D 5 ∷ P 5 ∷ []) (GoesOn ∷ Repeats ∷ GoesOn ∷ Repeats ∷ []) ([] ∷ [] ∷ [] ∷ [] ∷ [])
-    ∷ row std (D 9 ∷ D 9 ∷ P 9 ∷ []) (GoesOn ∷ GoesOn ∷ Repeats ∷ []) ([] ∷ [] ∷ [] ∷ [])
-    ∷ row std (P 5 ∷ B 9 ∷ P 9 ∷ P 9 ∷ []) (GoesOn ∷ GoesOn ∷ Breaks ∷ Repeats ∷ []) ([] ∷ [] ∷ (5 ∷ []) ∷ [] ∷ [])
-    ∷ row std (P 5 ∷ B 9 ∷ P 10 ∷ []) (GoesOn ∷ GoesOn ∷ GoesOn ∷ []) ([] ∷ [] ∷ [] ∷ [])
-    ∷ row std (P 5 ∷ P 9 ∷ P 9 ∷ []) (GoesOn ∷ Breaks ∷ Repeats ∷ []) ([] ∷ (5 ∷ []) ∷ [] ∷ [])
-    ∷ row std (P 5 ∷ F 5 ∷ F 9 ∷ []) (GoesOn ∷ Repeats ∷ Breaks ∷ []) ([] ∷ [] ∷ (5 ∷ []) ∷ [])
-    ∷ row std (P 15 ∷ P 0 ∷ P 0 ∷ P 1 ∷ []) (GoesOn ∷ GoesOn ∷ Repeats ∷ GoesOn ∷ []) ([] ∷ [] ∷ [] ∷ [] ∷ [])
-    ∷ row std (S 5 ∷ S 5 ∷ P 6 ∷ P 6 ∷ S 7 ∷ []) (GoesOn ∷ Repeats ∷ GoesOn ∷ Repeats ∷ GoesOn ∷ []) ((1 ∷ 2 ∷ []) ∷ [] ∷ (3 ∷ []) ∷ [] ∷ (4 ∷ 2 ∷ []) ∷ [])
-    ∷ row std (P 5 ∷ S 9 ∷ P 10 ∷ []) (GoesOn ∷ Breaks ∷ GoesOn ∷ []) ([] ∷ (5 ∷ 2 ∷ []) ∷ (3 ∷ []) ∷ [])
-    ∷ row (state Standard Started Nothing Open) (P 5 ∷ []) (GoesOn ∷ []) ((3 ∷ []) ∷ [])
-    ∷ row (state Standard Begin (At (asCounter 5)) Open) (S 5 ∷ S 5 ∷ []) (Repeats ∷ Breaks ∷ []) ([] ∷ (5 ∷ 2 ∷ []) ∷ [])
-    ∷ row (state Standard IgnoreRest (At (asCounter 5)) Barred) (P 5 ∷ []) (Breaks ∷ []) ((5 ∷ []) ∷ [])
-    ∷ row (state Standard Started (At (asCounter 5)) Spent) (P 5 ∷ P 5 ∷ []) (Breaks ∷ Repeats ∷ []) ((5 ∷ []) ∷ [] ∷ [])
-    ∷ row (first Crate) (P 5 ∷ P 5 ∷ S 6 ∷ D 9 ∷ []) (GoesOn ∷ Breaks ∷ GoesOn ∷ Breaks ∷ []) ([] ∷ (5 ∷ []) ∷ (2 ∷ []) ∷ (5 ∷ []) ∷ [])
-    ∷ row (state Crate Begin (At (asCounter 5)) Open) (P 5 ∷ []) (Breaks ∷ []) ((5 ∷ []) ∷ [])
+    corner std (P 5 ∷ P 5 ∷ P 5 ∷ P 5 ∷ P 5 ∷ []) (GoesOn ∷ Repeats ∷ Breaks ∷ Repeats ∷ Breaks ∷ []) ([] ∷ [] ∷ (5 ∷ []) ∷ [] ∷ (5 ∷ []) ∷ [])
+    ∷ corner std (P 5 ∷ A 5 ∷ P 5 ∷ []) (GoesOn ∷ GoesOn ∷ Breaks ∷ []) ([] ∷ [] ∷ (5 ∷ []) ∷ [])
+    ∷ corner std (A 5 ∷ P 5 ∷ []) (GoesOn ∷ Breaks ∷ []) ([] ∷ (5 ∷ []) ∷ [])
+    ∷ corner std (P 5 ∷ P 5 ∷ P 6 ∷ P 6 ∷ []) (GoesOn ∷ Repeats ∷ GoesOn ∷ Repeats ∷ []) ([] ∷ [] ∷ [] ∷ [] ∷ [])
+    ∷ corner std (P 5 ∷ D 9 ∷ P 9 ∷ P 10 ∷ []) (GoesOn ∷ GoesOn ∷ Repeats ∷ GoesOn ∷ []) ([] ∷ [] ∷ [] ∷ [] ∷ [])
+    ∷ corner std (P 5 ∷ D 5 ∷ []) (GoesOn ∷ GoesOn ∷ []) ([] ∷ [] ∷ [])
+    ∷ corner std (P 5 ∷ P 5 ∷ A 5 ∷ P 5 ∷ []) (GoesOn ∷ Repeats ∷ GoesOn ∷ Breaks ∷ []) ([] ∷ [] ∷ [] ∷ (5 ∷ []) ∷ [])
+    ∷ corner std (P 5 ∷ S 5 ∷ []) (GoesOn ∷ Repeats ∷ []) ([] ∷ [] ∷ [])
+    ∷ corner std (P 5 ∷ P 5 ∷ D 5 ∷ P 5 ∷ []) (GoesOn ∷ Repeats ∷ GoesOn ∷ Repeats ∷ []) ([] ∷ [] ∷ [] ∷ [] ∷ [])
+    ∷ corner std (D 9 ∷ D 9 ∷ P 9 ∷ []) (GoesOn ∷ GoesOn ∷ Repeats ∷ []) ([] ∷ [] ∷ [] ∷ [])
+    ∷ corner std (P 5 ∷ B 9 ∷ P 9 ∷ P 9 ∷ []) (GoesOn ∷ GoesOn ∷ Breaks ∷ Repeats ∷ []) ([] ∷ [] ∷ (5 ∷ []) ∷ [] ∷ [])
+    ∷ corner std (P 5 ∷ B 9 ∷ P 10 ∷ []) (GoesOn ∷ GoesOn ∷ GoesOn ∷ []) ([] ∷ [] ∷ [] ∷ [])
+    ∷ corner std (P 5 ∷ P 9 ∷ P 9 ∷ []) (GoesOn ∷ Breaks ∷ Repeats ∷ []) ([] ∷ (5 ∷ []) ∷ [] ∷ [])
+    ∷ corner std (P 5 ∷ F 5 ∷ F 9 ∷ []) (GoesOn ∷ Repeats ∷ Breaks ∷ []) ([] ∷ [] ∷ (5 ∷ []) ∷ [])
+    ∷ corner std (P 15 ∷ P 0 ∷ P 0 ∷ P 1 ∷ []) (GoesOn ∷ GoesOn ∷ Repeats ∷ GoesOn ∷ []) ([] ∷ [] ∷ [] ∷ [] ∷ [])
+    ∷ corner std (S 5 ∷ S 5 ∷ P 6 ∷ P 6 ∷ S 7 ∷ []) (GoesOn ∷ Repeats ∷ GoesOn ∷ Repeats ∷ GoesOn ∷ []) ((1 ∷ 2 ∷ []) ∷ [] ∷ (3 ∷ []) ∷ [] ∷ (4 ∷ 2 ∷ []) ∷ [])
+    ∷ corner std (P 5 ∷ S 9 ∷ P 10 ∷ []) (GoesOn ∷ Breaks ∷ GoesOn ∷ []) ([] ∷ (5 ∷ 2 ∷ []) ∷ (3 ∷ []) ∷ [])
+    ∷ corner (state Standard Started Nothing Open) (P 5 ∷ []) (GoesOn ∷ []) ((3 ∷ []) ∷ [])
+    ∷ corner (state Standard Begin (At (asCounter 5)) Open) (S 5 ∷ S 5 ∷ []) (Repeats ∷ Breaks ∷ []) ([] ∷ (5 ∷ 2 ∷ []) ∷ [])
+    ∷ corner (state Standard IgnoreRest (At (asCounter 5)) Barred) (P 5 ∷ []) (Breaks ∷ []) ((5 ∷ []) ∷ [])
+    ∷ corner (state Standard Started (At (asCounter 5)) Spent) (P 5 ∷ P 5 ∷ []) (Breaks ∷ Repeats ∷ []) ((5 ∷ []) ∷ [] ∷ [])
+    ∷ corner (first Crate) (P 5 ∷ P 5 ∷ S 6 ∷ D 9 ∷ []) (GoesOn ∷ Breaks ∷ GoesOn ∷ Breaks ∷ []) ([] ∷ (5 ∷ []) ∷ (2 ∷ []) ∷ (5 ∷ []) ∷ [])
+    ∷ corner (state Crate Begin (At (asCounter 5)) Open) (P 5 ∷ []) (Breaks ∷ []) ((5 ∷ []) ∷ [])
     ∷ []
