@@ -29,7 +29,7 @@ extern "C" {
 
 /* The layout of the library: its signatures, rows and numbers. An archive of another layout has another symbol in place of this one, and a
    file that includes this header does not link with it. The pointer is the reference; nothing has to read it. */
-extern const unsigned char cmv_abi_2;
+extern const unsigned char cmv_abi_3;
 #if defined(__has_attribute)
 #if __has_attribute(retain)
 __attribute__((used, retain))
@@ -39,7 +39,7 @@ __attribute__((used))
 #elif defined(__GNUC__)
 __attribute__((used))
 #endif
-static const unsigned char *const cmv_abi = &cmv_abi_2;
+static const unsigned char *const cmv_abi = &cmv_abi_3;
 
 /* The numbers of the answers. */
 enum {
@@ -530,40 +530,42 @@ enum {
     CMV_MACHINE_PHASE = 1, /* 0 before the first start, 1 after a start, 2 after a break up to the next start */
     CMV_MACHINE_LAST = 2, /* the counter of the last packet, 255 if there is none */
     CMV_MACHINE_AGAIN = 3, /* whether the last packet may be repeated: 0 no, as it had no payload flag; 1 once; 2 no more, as it was dropped as a repeat */
-    CMV_MACHINE_TAKEN = 4, /* the packets taken so far, which is the index of the next one */
-    CMV_MACHINE_PLACE = 5, /* the next free byte of the log, a multiple of 8 */
-    CMV_MACHINE_SIZE = 6 /* how many numbers the row has */
+    CMV_MACHINE_ANNOUNCED = 4, /* whether CMV_START_STREAM was given */
+    CMV_MACHINE_TAKEN = 5, /* the packets taken so far, which is the index of the next one */
+    CMV_MACHINE_PLACE = 6, /* the next free byte of the log, a multiple of 8 */
+    CMV_MACHINE_SIZE = 7 /* how many numbers the row has */
 };
 
 /* A start is a packet whose payload_unit_start_indicator is 1. A break is one whose counter is not the expected one: the next modulo 16
    if the packet has the payload flag, else the last again. In mode 1 a packet whose adaptation field has the discontinuity_indicator is
    neither a break nor a repeat. Any other one that has the payload flag and the last counter again is a repeat and no break if AGAIN is
-   1: it counts as taken and gives no event. MODE may be changed between two packets. The log is a slice of bytes, of which an event
-   takes 8. A packet gives at most two events, so that 16 free bytes are enough for one packet. Once its events are read the log can be
-   used again: set PLACE to 0. */
+   1: it counts as taken and gives no event. In mode 1 a packet that is a start or a break, and no repeat, first gives CMV_START_STREAM
+   if ANNOUNCED is 0. In both modes ANNOUNCED becomes 1 with that event, so that MODE may be changed between two packets. The log is a
+   slice of bytes, of which an event takes 8. A packet gives at most two events, three in mode 1, so that 24 free bytes are enough for
+   one packet. Once its events are read the log can be used again: set PLACE to 0. */
 
 /* The kinds of events. */
 enum {
-    CMV_START_STREAM = 1, /* the first start, unless a break came before it */
+    CMV_START_STREAM = 1, /* in mode 0 the first start, unless a break came before it; in mode 1 the first start or break */
     CMV_BEGIN_PACKET = 2, /* a unit begins: the payload of a start that begins with the head of a PES packet */
     CMV_CONTINUE_PACKET = 3, /* the unit goes on: the payload of a packet that is no start */
     CMV_END_PACKET = 4, /* the unit before is over: the next start came */
     CMV_CONTINUITY_ERROR = 5 /* a break: up to the next start no payload is reported */
 };
 
-/* Writes the state before the first packet, with an empty log, in the mode of mpeg2ts-reader: {0, 0, 255, 0, 0, 0}. */
-void cmv_machine_fresh(uint64_t state[6]);
+/* Writes the state before the first packet, with an empty log, in the mode of mpeg2ts-reader: {0, 0, 255, 0, 0, 0, 0}. */
+void cmv_machine_fresh(uint64_t state[7]);
 
-/* Writes the same in the standard's mode: {1, 0, 255, 0, 0, 0}. */
-void cmv_machine_standard(uint64_t state[6]);
+/* Writes the same in the standard's mode: {1, 0, 255, 0, 0, 0, 0}. */
+void cmv_machine_standard(uint64_t state[7]);
 
 /* Takes one packet. On 0 the state is the next one and the packet's events stand in the log from the old PLACE on.
    Refused with 1, 2, 14, 16, 15.
-   14: the state is impossible: MODE above 1, PHASE or AGAIN above 2, LAST above 15 and not 255, TAKEN of more than 32 bits, or PLACE above
-   log_len or no multiple of 8.
+   14: the state is impossible: MODE or ANNOUNCED above 1, PHASE or AGAIN above 2, LAST above 15 and not 255, TAKEN of more than 32 bits, or
+   PLACE above log_len or no multiple of 8.
    16: TAKEN is 4,294,967,295.
    15: the packet's events need more bytes than log has after PLACE. */
-uint32_t cmv_machine_step(uint64_t state[6], const uint8_t *packet, size_t packet_len, uint8_t *log, size_t log_len);
+uint32_t cmv_machine_step(uint64_t state[7], const uint8_t *packet, size_t packet_len, uint8_t *log, size_t log_len);
 
 /* Takes packets, which follow each other in bytes, up to the first that is refused. On 0 taken is how many it took; ended is 0 if that is
    all of them, else the number that the next one is refused with, 2, 16 or 15; and state and log are those after the packets taken. So if
@@ -571,7 +573,7 @@ uint32_t cmv_machine_step(uint64_t state[6], const uint8_t *packet, size_t packe
    Refused with 1, 14.
    1: bytes_len is not a multiple of 188.
    14: the state is impossible, as of cmv_machine_step; also if there is no packet. */
-uint32_t cmv_machine_run(uint64_t state[6], const uint8_t *bytes, size_t bytes_len, uint8_t *log, size_t log_len, uint64_t *taken,
+uint32_t cmv_machine_run(uint64_t state[7], const uint8_t *bytes, size_t bytes_len, uint8_t *log, size_t log_len, uint64_t *taken,
     uint64_t *ended);
 
 /* kind, index, place, length: the event at byte at of the log. index is that of its packet: TAKEN when it was taken. place and length are

@@ -9,8 +9,8 @@
 
 #define PIDS 8192
 
-/* The most that a packet's events take in a log: there are two at most. */
-#define LOG_SIZE 16
+/* The most that a packet's events take in a log: there are three at most, and two in the mode of cmv_machine_fresh. */
+#define LOG_SIZE 24
 
 /* The state of each PID's event machine. */
 static uint64_t machines[PIDS][CMV_MACHINE_SIZE];

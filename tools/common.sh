@@ -6,7 +6,7 @@ top=$(cd "$(dirname "${BASH_SOURCE[0]}")/.." && pwd -P)
 target=$top/target
 parts=(host host_streams host_whole)     # the crates whose entries are the library
 library=$target/library/libclomaverift.a # the library, which tools/library makes
-abi=2                                    # of its layout: raised if an entry's signature, a row or a number changes its meaning
+abi=3                                    # of its layout: raised if an entry's signature, a row or a number changes its meaning
 triple=x86_64-unknown-linux-gnu          # what the library is compiled for
 
 toolchain='logic 064da1ca440f63e7' # what `rt version` has to end with; README.md names it for the reader

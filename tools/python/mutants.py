@@ -36,7 +36,9 @@ WORDS = {"u8": "i8", "u16": "i16", "u32": "i32", "u64": "i64", "usize": "i64"}
 # looks first.
 LIKELY = {
     "has_discontinuity": "standard", "is_same": "standard", "repeated": "standard", "out_of_order": "standard", "again_after": "standard",
-    "Machine::standard": "standard", "of_machine::cmv_machine_standard": "standard",
+    "Machine::standard": "standard", "of_machine::cmv_machine_standard": "standard", "opens": "machine", "calls": "standard",
+    "due": "standard", "first_kind": "standard", "lead_room": "standard", "put_lead": "standard", "either": "standard",
+    "row::mode_of": "standard", "row::mode_number": "standard", "row::again_of": "standard", "row::again_number": "standard",
     "timestamp": "timestamp", "control": "control", "packet": "packet", "adaptation": "adaptation", "pes": "head", "contents": "contents",
     "log": "machine", "machine": "machine", "writer": "writer", "pes_header": "gather", "gather": "gather",
 }  # fmt: skip

@@ -1,7 +1,7 @@
 -- What packets that carry some bytes give, read by the machine: one begin, continues, and the bytes back.
 -- Assumes nothing.
 use mathlib.Core.Path.{_≡_, refl, sym, ap, ap₂, _∙_}
-use mathlib.Core.Bool.{true, false}
+use mathlib.Core.Bool.{Bool, true, false, _||_}
 use mathlib.Core.List.{List, [], _∷_, _++_, append-assoc}
 use Prim.Native.Nat.{ℕ, zero, suc, _+_, _-_, _*_, _%_, _^_, _≤_, _<_, min}
 use native.Mathlib.Omega.{arith}
@@ -20,15 +20,17 @@ use Rattle.machine.specs.declared.Last.the-variants.{Nothing, At}
 use Rattle.machine.specs.declared.Repeat.{Repeat}
 use Rattle.machine.specs.declared.Repeat.the-variants.{Open}
 use Rattle.machine.specs.declared.Continuity.the-variants.{GoesOn}
-use Rattle.machine.specs.Events.{asCounter, State, state, continuityBy, continuity, headAccepted, eventWithPayload, atStart, begun, continued}
+use Rattle.machine.specs.Events.{asCounter, State, state, continuityBy, continuity, headAccepted, eventWithPayload}
+use Rattle.machine.specs.Events.{due, announces, announcement, ended, begun, continued}
 use Rattle.machine.specs.Events.{eventsOf, next, run}
 use Rattle.machine.proofs.Counters.{on-first, on-next}
+use Rattle.machine.proofs.Laws.{due-plain, or-false}
 use Rattle.gather.specs.Belongs.{eventBytes}
 use Rattle.writer.specs.Packets.{carrier, carried}
 use Rattle.machine.specs.Run.{IsPacket}
 use Rattle.units.specs.Units.{bytesAt, bytesAtAll}
 use Rattle.capacity.specs.Reads.{upToBegin, segment, segments}
-use Rattle.capacity.specs.Demand.{Before, endOf, continuesOf, eventsWritten, Counters}
+use Rattle.capacity.specs.Demand.{Before, atStart, endOf, continuesOf, eventsWritten, Counters}
 use Rattle.capacity.proofs.Carrier.{start-back, pid-back, flag-back, counter-back, content-back, payload-back, rest-back, part-back}
 use Rattle.capacity.proofs.Carrier.{is-packet}
 
@@ -51,28 +53,32 @@ module _ (id c : ℕ) (xs : List ℕ) (fits : c ≤ 15) (low : 1 ≤ length xs) 
       due-on c (s .mode) (s .last) (s .again) (carrier start id c xs) h (payload-back start id c xs high low) (counter-back start id c xs fits)
 
   -- a later packet: one continue
-  step-later : (i : ℕ) (mo : Mode) (l : Last) (r : Repeat) → Before c l
-      → eventsOf i (state mo Started l r) (carrier 0 id c xs) ≡ endOf continuePacket i (length xs) ∷ []
-  unfolding eventsOf continued
-  step-later i mo l r h =
-      simp (goes-on 0 (state mo Started l r) h, start-back 0 id c xs false refl, payload-back 0 id c xs high low)
+  step-later : (i : ℕ) (mo : Mode) (l : Last) (r : Repeat) (a : Bool) → Before c l
+      → eventsOf i (state mo Started l r a) (carrier 0 id c xs) ≡ endOf continuePacket i (length xs) ∷ []
+  unfolding eventsOf announces announcement continued
+  step-later i mo l r a h =
+      simp (goes-on 0 (state mo Started l r a) h, start-back 0 id c xs false refl, due-plain mo Started a, payload-back 0 id c xs high low)
       (ap (λ (e : Event). e ∷ []) (held-made 0 continuePacket i))
 
-  next-later : (mo : Mode) (l : Last) (r : Repeat) → Before c l → next (state mo Started l r) (carrier 0 id c xs) ≡ state mo Started (At (asCounter c)) Open
-  unfolding next
-  next-later mo l r h =
-      simp (goes-on 0 (state mo Started l r) h, start-back 0 id c xs false refl, counter-back 0 id c xs fits, flag-back 0 id c xs)
+  next-later : (mo : Mode) (l : Last) (r : Repeat) (a : Bool) → Before c l
+      → next (state mo Started l r a) (carrier 0 id c xs) ≡ state mo Started (At (asCounter c)) Open a
+  unfolding next announces
+  next-later mo l r a h =
+      simp (goes-on 0 (state mo Started l r a) h, start-back 0 id c xs false refl, due-plain mo Started a, or-false a, counter-back 0 id c xs fits, flag-back 0 id c xs)
 
-  -- the first packet: what the phase gives, and a begin
+  -- the first packet: what the state gives, and a begin
   step-first : (i : ℕ) (s : State) → Before c (s .last) → headAccepted xs ≡ true
-      → eventsOf i s (carrier 1 id c xs) ≡ atStart (s .phase) i ++ (endOf beginPacket i (length xs) ∷ [])
-  unfolding eventsOf begun
+      → eventsOf i s (carrier 1 id c xs) ≡ atStart s i ++ (endOf beginPacket i (length xs) ∷ [])
+  unfolding eventsOf announces begun atStart
   step-first i s h a =
+      let d = announcement (due (s .mode) GoesOn (s .phase) (s .announced) true) i in
+      let b = endOf beginPacket i (length xs) in
       simp (goes-on 1 s h, start-back 1 id c xs true refl, payload-back 1 id c xs high low, rest-back 1 id c xs high, a)
-      (ap (λ (e : Event). atStart (s .phase) i ++ (e ∷ [])) (held-made 1 beginPacket i))
+      (ap (λ (e : Event). d ++ (ended (s .phase) i ++ (e ∷ []))) (held-made 1 beginPacket i) ∙ sym (append-assoc d (ended (s .phase) i) (b ∷ [])))
 
-  next-first : (s : State) → Before c (s .last) → next s (carrier 1 id c xs) ≡ state (s .mode) Started (At (asCounter c)) Open
-  unfolding next
+  next-first : (s : State) → Before c (s .last)
+      → next s (carrier 1 id c xs) ≡ state (s .mode) Started (At (asCounter c)) Open (s .announced || due (s .mode) GoesOn (s .phase) (s .announced) true)
+  unfolding next announces
   next-first s h = simp (goes-on 1 s h, start-back 1 id c xs true refl, counter-back 1 id c xs fits, flag-back 1 id c xs)
 
 -- ---- the later packets
@@ -87,15 +93,15 @@ takes-rest k xs h = omega (arith, length-drop 184 xs)
 pub chunk-length : (k : ℕ) (xs : List ℕ) → Takes (suc k) xs → (1 ≤ length (take 184 xs)) × (length (take 184 xs) ≤ 184)
 chunk-length k xs h = omega (arith, length-take 184 xs)
 
-run-later : (k id c i : ℕ) (xs : List ℕ) (mo : Mode) (l : Last) (r : Repeat) → c ≤ 15 → Before c l → Takes k xs
-    → run i (state mo Started l r) (carried k 0 id c xs) ≡ continuesOf i k (length xs)
+run-later : (k id c i : ℕ) (xs : List ℕ) (mo : Mode) (l : Last) (r : Repeat) (a : Bool) → c ≤ 15 → Before c l → Takes k xs
+    → run i (state mo Started l r a) (carried k 0 id c xs) ≡ continuesOf i k (length xs)
 unfolding run carried continuesOf
-run-later zero id c i xs mo l r h f t = refl
-run-later (suc k) id c i xs mo l r h f t =
+run-later zero id c i xs mo l r a h f t = refl
+run-later (suc k) id c i xs mo l r a h f t =
     let q = chunk-length k xs t in
-    rw (step-later id c (take 184 xs) h (q .0) (q .1) i mo l r f, next-later id c (take 184 xs) h (q .0) (q .1) mo l r f)
+    rw (step-later id c (take 184 xs) h (q .0) (q .1) i mo l r a f, next-later id c (take 184 xs) h (q .0) (q .1) mo l r a f)
     (ap₂ (λ (m : ℕ) (es : List Event). endOf continuePacket i m ∷ es) (length-take 184 xs)
-    (run-later k id ((c + 1) % 16) (suc i) (drop 184 xs) mo (At (asCounter c)) Open (omega arith) refl (takes-rest k xs t)
+    (run-later k id ((c + 1) % 16) (suc i) (drop 184 xs) mo (At (asCounter c)) Open a (omega arith) refl (takes-rest k xs t)
     ∙ ap (continuesOf (suc i) k) (length-drop 184 xs)))
 
 -- the bytes of a packet in a list, by its event
@@ -137,16 +143,22 @@ unfolding segments continuesOf
 none-begun zero i m = refl
 none-begun (suc k) i m = none-begun k (suc i) (m - 184)
 
-past-opened : (f : Phase) (i : ℕ) (es : List Event) → segments (atStart f i ++ es) ≡ segments es
-unfolding segments
-past-opened Begin i es = refl
-past-opened Started i es = refl
-past-opened IgnoreRest i es = refl
+past-opened : (s : State) (i : ℕ) (es : List Event) → segments (atStart s i ++ es) ≡ segments es
+unfolding segments announcement atStart
+past-opened s i es = go (due (s .mode) GoesOn (s .phase) (s .announced) true) (s .phase)
+  where
+    go : (b : Bool) (f : Phase) → segments ((announcement b i ++ ended f i) ++ es) ≡ segments es
+    go true Begin = refl
+    go true Started = refl
+    go true IgnoreRest = refl
+    go false Begin = refl
+    go false Started = refl
+    go false IgnoreRest = refl
 
-pub one-segment : (f : Phase) (k m : ℕ)
-    → segments (eventsWritten f k m) ≡ segment (endOf beginPacket 0 (min 184 m)) (continuesOf 1 (k - 1) (m - 184)) ∷ []
+pub one-segment : (s : State) (k m : ℕ)
+    → segments (eventsWritten s k m) ≡ segment (endOf beginPacket 0 (min 184 m)) (continuesOf 1 (k - 1) (m - 184)) ∷ []
 unfolding eventsWritten segments
-one-segment f k m = rw (past-opened f 0, up-continues (k - 1) 1 (m - 184), none-begun (k - 1) 1 (m - 184))
+one-segment s k m = rw (past-opened s 0, up-continues (k - 1) 1 (m - 184), none-begun (k - 1) 1 (m - 184))
 
 -- ---- k packets
 
@@ -175,7 +187,7 @@ carried-length (suc k) start id c xs = ap suc (carried-length k 0 id ((c + 1) % 
 -- the first with the start flag
 module _ (k id c : ℕ) (xs : List ℕ) (takes : Takes (suc k) xs) where
   pub run-carried : (s : State) → c ≤ 15 → Before c (s .last) → headAccepted (take 184 xs) ≡ true
-      → run 0 s (carried (suc k) 1 id c xs) ≡ eventsWritten (s .phase) (suc k) (length xs)
+      → run 0 s (carried (suc k) 1 id c xs) ≡ eventsWritten s (suc k) (length xs)
   unfolding run carried eventsWritten
   run-carried s fits before headed =
       let q = chunk-length k xs takes in
@@ -183,7 +195,7 @@ module _ (k id c : ℕ) (xs : List ℕ) (takes : Takes (suc k) xs) where
       rw (
         step-first id c (take 184 xs) fits (q .0) (q .1) 0 s before headed,
         next-first id c (take 184 xs) fits (q .0) (q .1) s before,
-        run-later k id ((c + 1) % 16) 1 (drop 184 xs) (s .mode) (At (asCounter c)) Open (omega arith) refl (takes-rest k xs takes),
+        run-later k id ((c + 1) % 16) 1 (drop 184 xs) (s .mode) (At (asCounter c)) Open _ (omega arith) refl (takes-rest k xs takes),
         append-assoc,
         length-take 184 xs,
         length-drop 184 xs,

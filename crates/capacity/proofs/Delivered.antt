@@ -11,7 +11,7 @@ use lib.ListN.{length, take}
 use Rattle.bits.specs.Answer.{All}
 use Rattle.log.specs.Entry.{beginPacket}
 use Rattle.machine.specs.declared.Machine.{Machine}
-use Rattle.machine.specs.Events.{State, atStart, run}
+use Rattle.machine.specs.Events.{State, run}
 use Rattle.machine.specs.Step.{stateOf}
 use Rattle.machine.specs.Run.{shifted}
 use Rattle.machine.proofs.Theorems.{run-shift}
@@ -23,7 +23,7 @@ use Rattle.writer.specs.declared.Unit.{Unit}
 use Rattle.writer.specs.Unit.{dataOf, countOf}
 use Rattle.writer.specs.Packets.{headerImage, packetsOf}
 use Rattle.capacity.specs.Accepted.{PacketsRead, HeaderRead}
-use Rattle.capacity.specs.Demand.{Permitted, Ready, endOf, continuesOf, eventsWritten, eventsLogged, Strict}
+use Rattle.capacity.specs.Demand.{Permitted, Ready, atStart, endOf, continuesOf, eventsWritten, eventsLogged, Strict}
 use Rattle.capacity.proofs.Permits.{route-fits, unit-fits}
 use Rattle.capacity.proofs.HeaderBack.{length-back}
 use Rattle.capacity.proofs.Written.{written-count, all-packets, stream-length, stream-takes, unit-run, whole, first-is, unit-gives}
@@ -40,7 +40,7 @@ module _ (r : Route) (u : Unit) (payload : List ℕ) (ok : Permitted r u (length
         ready = f;
         pids = unit-pids r u payload ok;
         counters = unit-counters r u payload ok;
-        events = unit-run r u payload ok s f ∙ ap (λ (m : ℕ). eventsWritten (s .phase) m (9 + dataOf u + n)) k;
+        events = unit-run r u payload ok s f ∙ ap (λ (m : ℕ). eventsWritten s m (9 + dataOf u + n)) k;
         delivers = record {
           packets = all-packets r u payload;
           segment-of = whole r u payload ok;
@@ -89,8 +89,8 @@ module _ (r : Route) (u : Unit) (payload : List ℕ) (ok : Permitted r u (length
       let cs = continuesOf 1 (k - 1) (m - 184) in
       let long : 1 + (k - 1) ≤ length ps = long-enough r u payload in
       let all = all-packets r u payload in
-      let es = atStart (s .phase) 0 in
-      let o = opened-taken ps all t good (omega arith) (s .phase) in
+      let es = atStart s 0 in
+      let o = opened-taken ps all t good (omega arith) s in
       let t₁ = gatherAll ps t es in
       let e : run 0 s ps ≡ es ++ (b ∷ cs) = unit-run r u payload ok s f in
       let q : unitBytes ps b cs ≡ payload

@@ -3,7 +3,7 @@
 use mathlib.Core.Path.{_≡_, refl}
 use mathlib.Core.Bool.{Bool, true, false}
 use mathlib.Core.List.{List, [], _∷_, _++_}
-use Prim.Native.Nat.{ℕ}
+use Prim.Native.Nat.{ℕ, _+_, _*_, _≤_}
 use native.Mathlib.Omega.{arith}
 use lib.ListN.{length, replicate}
 use Rattle.bits.specs.Answer.{partOf}
@@ -17,7 +17,7 @@ use Rattle.log.specs.declared.Event.{Event}
 use Rattle.log.specs.Entry.{event, beginPacket}
 use Rattle.machine.specs.declared.Mode.{Mode}
 use Rattle.machine.specs.declared.Mode.the-variants.{Crate, Standard}
-use Rattle.machine.specs.Events.{continuityBy, discontinuity, headAccepted, begun, eventsOf, run}
+use Rattle.machine.specs.Events.{continuityBy, discontinuity, headAccepted, announces, announcement, begun, eventsOf, run}
 use Rattle.machine.specs.History.{first}
 use Rattle.machine.specs.Step.{fresh}
 use Rattle.pes_header.specs.Payload.{headerPayload, payloadBytes}
@@ -35,7 +35,7 @@ use Rattle.writer.specs.Writer.{routeTests, unitTests, sizeTests, writeOf}
 use Rattle.gather.specs.Gather.{emptied, wrongGathering}
 use Rattle.units.specs.Units.{standing, bytesAt}
 use Rattle.capacity.specs.Reads.{upToBegin, segment, segments, HasFields, Delivers}
-use Rattle.capacity.specs.Demand.{Permitted, Accepts, countGiven, outputBytes, continuesOf, eventsWritten}
+use Rattle.capacity.specs.Demand.{Permitted, Accepts, countGiven, outputBytes, atStart, continuesOf, eventsWritten, eventsLogged}
 use Rattle.capacity.specs.ReadBack.{ReadBack}
 use Rattle.capacity.proofs.Theorems.{read-back}
 
@@ -80,11 +80,15 @@ accepted-some = refl
 
 pub read-back-some : (mo : Mode) → ReadBack way small (7 ∷ []) (countGiven way small (7 ∷ []) (replicate 188 0))
     (outputBytes way small (7 ∷ []) (replicate 188 0)) (fresh mo) (replicate 16 0) (standing emptied (0 ∷ []))
-unfolding wrongGathering writeOf routeTests unitTests sizeTests statedLength countOf dataOf parsedId eventsWritten continuesOf
+unfolding wrongGathering writeOf routeTests unitTests sizeTests statedLength countOf dataOf parsedId announcement atStart eventsWritten continuesOf
 read-back-some mo =
     read-back way small (7 ∷ []) (replicate 188 0) (fresh mo) (replicate 16 0) (standing emptied (0 ∷ [])) accepted-some
     (record { id-byte = omega arith; trick-byte = omega arith; crc-word = omega arith })
-    (omega arith) (refl, omega arith, refl) (omega arith) (omega arith) refl (omega arith)
+    (omega arith) (refl, omega arith, refl) (omega arith) (room mo) refl (omega arith)
+  where
+    room : (mo : Mode) → 0 + 8 * length (eventsLogged small 1 (fresh mo)) ≤ 16
+    room Crate = omega arith
+    room Standard = omega arith
 
 -- with a bare id the payload begins right after the head: one packet has 178 bytes of it, for which the count is two
 abbrev bare : Unit
@@ -100,7 +104,7 @@ abbrev begin : Event
 begin = event beginPacket 0 4 184
 
 bare-one : (mo : Mode) → segments (run 0 (first mo) (packet ∷ [])) ≡ segment begin [] ∷ []
-unfolding segments upToBegin run eventsOf begun continuityBy discontinuity startFlag headAccepted payloadThere payloadFlag contentAt adaptationThere adaptationFlag notHead bit field
+unfolding segments upToBegin run eventsOf announces announcement begun continuityBy discontinuity startFlag headAccepted payloadThere payloadFlag contentAt adaptationThere adaptationFlag notHead bit field
 bare-one Crate = refl
 bare-one Standard = refl
 

@@ -23,7 +23,7 @@ use Rattle.machine.specs.declared.Phase.{Phase}
 use Rattle.machine.specs.declared.Phase.the-variants.{Begin, Started, IgnoreRest}
 use Rattle.machine.specs.declared.Continuity.{Continuity}
 use Rattle.machine.specs.declared.Continuity.the-variants.{GoesOn, Repeats, Breaks}
-use Rattle.machine.specs.Events.{State, continuity, headAccepted, eventWithPayload, atStart, begun, continued, eventsOf, next, run}
+use Rattle.machine.specs.Events.{State, continuity, headAccepted, eventWithPayload, announces, announcement, ended, begun, continued, eventsOf, next, run}
 use Rattle.machine.proofs.Theorems.{happened, events-are}
 use Rattle.pes_header.specs.Payload.{headerPayload, payloadBytes}
 use Rattle.gather.specs.Belongs.{eventBytes}
@@ -76,10 +76,15 @@ module _ (i : ℕ) (p : List ℕ) where
   within-held : Within 1 (eventWithPayload beginPacket i p ∷ []) × Within 1 (eventWithPayload continuePacket i p ∷ [])
   within-held = let h = content-low p in ((omega arith, (omega arith, tt)), (omega arith, (omega arith, tt)))
 
-  within-opened : (f : Phase) → Within 0 (atStart f i)
-  within-opened Begin = (omega arith, (omega arith, tt))
-  within-opened Started = (omega arith, (omega arith, tt))
-  within-opened IgnoreRest = within-none 0
+  within-announced : (b : Bool) → Within 0 (announcement b i)
+  unfolding announcement
+  within-announced true = (omega arith, (omega arith, tt))
+  within-announced false = within-none 0
+
+  within-ended : (f : Phase) → Within 0 (ended f i)
+  within-ended Begin = within-none 0
+  within-ended Started = (omega arith, (omega arith, tt))
+  within-ended IgnoreRest = within-none 0
 
   within-begun : Within 1 (begun i p)
   unfolding begun
@@ -95,14 +100,17 @@ module _ (i : ℕ) (p : List ℕ) where
 
   -- in both modes: a repeat that is dropped gives none
   within-happened : (c : Continuity) (s : Bool) (f : Phase) → Within 1 (happened c s f i p)
-  within-happened GoesOn true f = within-append 0 1 (atStart f i) (begun i p) (within-opened f) within-begun
+  within-happened GoesOn true f = within-append 0 1 (ended f i) (begun i p) (within-ended f) within-begun
   within-happened GoesOn false f = within-continued f
   within-happened Repeats s f = within-none 1
   within-happened Breaks true f = (omega (arith, within-begun .0), (omega arith, within-begun .1))
   within-happened Breaks false f = (omega arith, (omega arith, tt))
 
   one-part : (s : State) → Within 1 (eventsOf i s p)
-  one-part s = rw (events-are i s p) (within-happened (continuity s p) (startFlag p) (s .phase))
+  one-part s =
+      rw (events-are i s p)
+      (within-append 0 1 (announcement (announces s p) i) (happened (continuity s p) (startFlag p) (s .phase) i p) (within-announced (announces s p))
+      (within-happened (continuity s p) (startFlag p) (s .phase)))
 
 -- a run has at most as many parts as packets
 run-within : (ps : List (List ℕ)) (i : ℕ) (s : State) → Within (length ps) (run i s ps)

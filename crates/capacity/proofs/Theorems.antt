@@ -19,7 +19,7 @@ use Rattle.log.specs.declared.Event.{Event}
 use Rattle.log.specs.Entry.{beginPacket}
 use Rattle.machine.specs.declared.Mode.{Mode}
 use Rattle.machine.specs.declared.Machine.{Machine}
-use Rattle.machine.specs.Events.{State, atStart, run}
+use Rattle.machine.specs.Events.{State, run}
 use Rattle.machine.specs.History.{first}
 use Rattle.machine.specs.Step.{stateOf, Stands}
 use Rattle.machine.specs.Run.{reportOf, ranLog, IsPacket, Logged}
@@ -36,7 +36,7 @@ use Rattle.writer.specs.Writer.{allOf, routeTests, unitTests, sizeTests, notWri
 use Rattle.capacity.specs.Reads.{segment, segments, Delivers}
 use Rattle.capacity.specs.Accepted.{PacketsRead, HeaderRead}
 use Rattle.capacity.specs.Demand.{Typed, Permitted, Accepts, countGiven, outputBytes, outputPackets}
-use Rattle.capacity.specs.Demand.{Ready, endOf, continuesOf, eventsWritten, Strict, eventsLogged}
+use Rattle.capacity.specs.Demand.{Ready, atStart, endOf, continuesOf, eventsWritten, Strict, eventsLogged}
 use Rattle.capacity.specs.ReadBack.{none, eventsRead, eventsAdded, packetAt, callNumbers, afterCalls, ReadBack}
 use Rattle.capacity.proofs.Permits.{unit-fits}
 use Rattle.capacity.proofs.Carried.{one-segment}
@@ -272,7 +272,7 @@ module _ (r : Route) (u : Unit) (payload out : List ℕ) (m : Machine) (log : Li
 
   -- the events with the first packet's index 0, of which this is the begin, and these are the continues
   abbrev es : List Event
-  es = eventsWritten (m .phase) (countOf u n) (9 + dataOf u + n)
+  es = eventsWritten (stateOf m) (countOf u n) (9 + dataOf u + n)
 
   abbrev b : Event
   b = endOf beginPacket 0 (min 184 (9 + dataOf u + n))
@@ -306,7 +306,7 @@ module _ (r : Route) (u : Unit) (payload out : List ℕ) (m : Machine) (log : Li
   unfolding eventsWritten
   last-packet =
       ap (λ (x : List Event). packetAt (m .taken) bytes (lastEvent none x)) added-are
-      ∙ (ap (packetAt (m .taken) bytes) (last-past (m .taken) none (atStart (m .phase) 0) b cs)
+      ∙ (ap (packetAt (m .taken) bytes) (last-past (m .taken) none (atStart (stateOf m) 0) b cs)
       ∙ packet-at (m .taken) bytes (countOf u n) size-is (lastEvent b cs))
 
   is-packet : IsPacket (packetOf packets (lastEvent b cs))
@@ -330,7 +330,7 @@ module _ (r : Route) (u : Unit) (payload out : List ℕ) (m : Machine) (log : Li
         events = added-are;
         segment-of = shiftedSegment d (segment b cs);
         one-begin = ap segments added-are
-            ∙ (segments-shifted d es ∙ ap (map (shiftedSegment d)) (one-segment (m .phase) k (9 + dataOf u + n)));
+            ∙ (segments-shifted d es ∙ ap (map (shiftedSegment d)) (one-segment (stateOf m) k (9 + dataOf u + n)));
         header = subst (λ (xs : List ℕ). HeaderRead u n xs) (sym (bytes-shifted d bytes k size-is b)) (accepted-header r u payload out h typed);
         packets-read = accepted r u payload out h typed;
         gathered = subst (All Taken) (sym (ap (callNumbers d bytes t) added-are ∙ numbers-shifted d bytes k size-is t es)) (gathers .0);

@@ -89,11 +89,11 @@ module _ (r : Route) (u : Unit) (payload : List ℕ) (ok : Permitted r u (length
   unfolding headAccepted
   headed = ap headAccepted first-chunk ∙ ap (λ (a : Answer). eqb (a .number) done) (headed-back u n fit first (answer done []))
 
-  pub unit-run : (s : State) → Ready r s → run 0 s (packetsOf r u payload) ≡ eventsWritten (s .phase) (countOf u n) (9 + dataOf u + n)
+  pub unit-run : (s : State) → Ready r s → run 0 s (packetsOf r u payload) ≡ eventsWritten s (countOf u n) (9 + dataOf u + n)
   unit-run s f =
       ap (run 0 s) packets-are
       ∙ (run-carried k (r .pid) (r .counter) stream takes s (way .counter-fits) f headed
-      ∙ ap₂ (eventsWritten (s .phase)) (sym count-is) stream-length)
+      ∙ ap₂ (eventsWritten s) (sym count-is) stream-length)
 
   -- its only segment
   abbrev pub whole : Segment
@@ -114,7 +114,7 @@ module _ (r : Route) (u : Unit) (payload : List ℕ) (ok : Permitted r u (length
       }
 
   pub unit-segments : (s : State) → Ready r s → segments (run 0 s (packetsOf r u payload)) ≡ whole ∷ []
-  unit-segments s f = ap segments (unit-run s f) ∙ one-segment (s .phase) (countOf u n) (9 + dataOf u + n)
+  unit-segments s f = ap segments (unit-run s f) ∙ one-segment s (countOf u n) (9 + dataOf u + n)
 
   pub unit-pids : All (λ (p : List ℕ). pidField p ≡ r .pid) (packetsOf r u payload)
   unfolding packetsOf

@@ -10,11 +10,12 @@ use Rattle.packet.specs.Packet.{pidField, counterField}
 use Rattle.pes.specs.Head.{packetLength}
 use Rattle.log.specs.declared.Event.{Event}
 use Rattle.log.specs.Entry.{event, beginPacket, continuePacket}
-use Rattle.machine.specs.declared.Phase.{Phase}
+use Rattle.machine.specs.declared.Continuity.the-variants.{GoesOn}
 use Rattle.machine.specs.declared.Last.{Last}
 use Rattle.machine.specs.declared.Last.the-variants.{Nothing, At}
 use Rattle.machine.specs.declared.Machine.{Machine}
-use Rattle.machine.specs.Events.{State, atStart, run}
+use Rattle.machine.specs.Events.{State, due, announcement, ended, run}
+use Rattle.machine.specs.Step.{stateOf}
 use Rattle.machine.specs.Run.{packetsIn, shifted}
 use Rattle.writer.specs.declared.Route.{Route}
 use Rattle.writer.specs.declared.Unit.{Unit}
@@ -59,7 +60,7 @@ outputBytes r u payload out = take (188 * countGiven r u payload out) (outputOf 
 abbrev pub outputPackets : Route → Unit → List ℕ → List ℕ → List (List ℕ)
 outputPackets r u payload out = packetsIn (outputBytes r u payload out)
 
--- no last counter, or the one before the first: any mode, any phase, whatever may be repeated
+-- no last counter, or the one before the first: any mode, any phase, whatever may be repeated, announced or not
 abbrev pub Before : ℕ → Last → Type 0
 Before c Nothing = 0 ≤ 0
 Before c (At l) = (l .val + 1) % 16 ≡ c
@@ -78,9 +79,13 @@ unfoldable pub continuesOf : ℕ → ℕ → ℕ → List Event
 continuesOf i zero m = []
 continuesOf i (suc k) m = endOf continuePacket i (min 184 m) ∷ continuesOf (suc i) k (m - 184)
 
--- what the phase gives on a start, one begin, then continues: no break
-unfoldable pub eventsWritten : Phase → ℕ → ℕ → List Event
-eventsWritten f k m = atStart f 0 ++ (endOf beginPacket 0 (min 184 m) ∷ continuesOf 1 (k - 1) (m - 184))
+-- what a state gives on a start where a packet goes on: StartStream where it is due, EndPacket where a unit was open
+unfoldable pub atStart : State → ℕ → List Event
+atStart s i = announcement (due (s .mode) GoesOn (s .phase) (s .announced) true) i ++ ended (s .phase) i
+
+-- these, one begin, then continues: no break
+unfoldable pub eventsWritten : State → ℕ → ℕ → List Event
+eventsWritten s k m = atStart s 0 ++ (endOf beginPacket 0 (min 184 m) ∷ continuesOf 1 (k - 1) (m - 184))
 
 -- ---- read from the strictest side
 
@@ -95,7 +100,7 @@ pub record Strict (r : Route) (u : Unit) (payload : List ℕ) (s : State) (ps : 
   pub ready : Ready r s
   pub pids : All (λ (p : List ℕ). pidField p ≡ r .pid) ps
   pub counters : Counters (r .counter) ps
-  pub events : run 0 s ps ≡ eventsWritten (s .phase) (length ps) (9 + dataOf u + length payload)
+  pub events : run 0 s ps ≡ eventsWritten s (length ps) (9 + dataOf u + length payload)
   pub delivers : Delivers u payload s ps
   pub stated : packetLength (bytesAt ps (delivers .segment-of .first)) ≡ statedLength u (length payload)
 
@@ -103,4 +108,4 @@ pub record Strict (r : Route) (u : Unit) (payload : List ℕ) (s : State) (ps : 
 
 -- the events of a unit, from the machine's next packet on
 abbrev pub eventsLogged : Unit → ℕ → Machine → List Event
-eventsLogged u n m = map (shifted (m .taken)) (eventsWritten (m .phase) (countOf u n) (9 + dataOf u + n))
+eventsLogged u n m = map (shifted (m .taken)) (eventsWritten (stateOf m) (countOf u n) (9 + dataOf u + n))

@@ -90,6 +90,7 @@ fn state(m: Machine, log: &[u8; LOG]) {
     phase(p);
     last(l);
     again(r);
+    show::number(m.announced as u64);
     show::two(m.taken as u64, m.place as u64);
     entries(log);
     show::end();
@@ -143,6 +144,7 @@ fn between_entries() -> Machine {
         phase: Phase::Started,
         last: Last::Nothing,
         again: Repeat::Spent,
+        announced: true,
         taken: 7,
         place: 3,
     }

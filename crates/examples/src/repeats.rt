@@ -1,9 +1,14 @@
-// The corners of the standard mode: the packets of each row one by one over a lent state, and all by one call.
+// The corners of the standard mode: the packets of each row one by one over a lent state, and all by one call; and a packet with three
+// events.
 use crate::machines;
 use crate::machines::LOG;
 use bits::copy_at;
 use bits::part;
+use machine::Last;
 use machine::Machine;
+use machine::Mode;
+use machine::Phase;
+use machine::Repeat;
 
 // The most packets of a row, and their bytes.
 const MOST: usize = 5;
@@ -70,6 +75,37 @@ fn row(call: &[u8], codes: &[u8]) {
     all(call, codes);
 }
 
+// Within a unit whose stream was not announced, at a place of the log.
+fn not_announced(place: usize) -> Machine {
+    Machine {
+        mode: Mode::Standard,
+        phase: Phase::Started,
+        last: Last::Nothing,
+        again: Repeat::Barred,
+        announced: false,
+        taken: 7,
+        place,
+    }
+}
+
+// A start there has three events. The log has room for two of them after the first place, and for three after the second.
+fn three() {
+    let mut log = [0u8; LOG];
+    let start = packet(0x55);
+    machines::step(
+        b"standard room_for_two",
+        not_announced(32),
+        &start,
+        &mut log,
+    );
+    machines::step(
+        b"standard room_for_three",
+        not_announced(24),
+        &start,
+        &mut log,
+    );
+}
+
 pub fn run() {
     row(b"standard P5_P5_P5_P5_P5", b"\x15\x15\x15\x15\x15");
     row(b"standard P5_A5_P5", b"\x15\x25\x15");
@@ -79,4 +115,8 @@ pub fn run() {
     row(b"standard P5_D5", b"\x15\x35");
     row(b"standard P5_P5_A5_P5", b"\x15\x15\x25\x15");
     row(b"standard P5_S5", b"\x15\x55");
+    row(b"standard P5_P9_S10", b"\x15\x19\x5A");
+    row(b"standard P5_S9", b"\x15\x59");
+    row(b"standard P5_S5_S5", b"\x15\x55\x55");
+    three();
 }

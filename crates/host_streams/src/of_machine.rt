@@ -18,7 +18,7 @@ use machine::row::RowRead;
 
 // The row of a machine before its first packet, with an empty log, in the crate's mode (Machine::new): 0, 0, 255, 0, 0, 0
 #[no_mangle]
-pub extern "C" fn cmv_machine_fresh(state: &mut [u64; 6])
+pub extern "C" fn cmv_machine_fresh(state: &mut [u64; 7])
     ensures { λ _. ⌜ now (state .exit) ≡ rowOf (fresh Mode.Crate) ⌝ }
 {
     row::write(Machine::new(), state);
@@ -26,7 +26,7 @@ pub extern "C" fn cmv_machine_fresh(state: &mut [u64; 6])
 
 // The same in the standard mode (Machine::standard): 1, 0, 255, 0, 0, 0
 #[no_mangle]
-pub extern "C" fn cmv_machine_standard(state: &mut [u64; 6])
+pub extern "C" fn cmv_machine_standard(state: &mut [u64; 7])
     ensures { λ _. ⌜ now (state .exit) ≡ rowOf (fresh Mode.Standard) ⌝ }
 {
     row::write(Machine::standard(), state);
@@ -34,7 +34,7 @@ pub extern "C" fn cmv_machine_standard(state: &mut [u64; 6])
 
 // machine::step over a lent row
 #[no_mangle]
-pub extern "C" fn cmv_machine_step(state: &mut [u64; 6], packet: &[u8], log: &mut [u8]) -> u32
+pub extern "C" fn cmv_machine_step(state: &mut [u64; 7], packet: &[u8], log: &mut [u8]) -> u32
     ensures { λ r. ⌜ rowStep r (now (state .exit)) (now (log .exit))
         ≡ rowStepOf (now (state .entry)) (now (packet .entry)) (now (log .entry)) ⌝ }
 {
@@ -56,7 +56,7 @@ pub extern "C" fn cmv_machine_step(state: &mut [u64; 6], packet: &[u8], log: &mu
 // machine::run over a lent row: how many packets were taken, and the number that the next one was refused with, 0 where all were taken
 #[no_mangle]
 pub extern "C" fn cmv_machine_run(
-    state: &mut [u64; 6],
+    state: &mut [u64; 7],
     bytes: &[u8],
     log: &mut [u8],
     taken: &mut u64,

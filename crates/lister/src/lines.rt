@@ -6,8 +6,8 @@ use page::PAGE;
 use page::put;
 use page::text;
 
-// The log of one packet: it has at most two events, of eight bytes each.
-pub const LOG: usize = 16;
+// The log of one packet: it has at most three events, of eight bytes each.
+pub const LOG: usize = 24;
 
 fn decimal(page: &mut [u8; PAGE], used: usize, n: u64) -> usize {
     let mut digits = [0u8; 20];

@@ -1,8 +1,8 @@
 -- The state keeps what of the packets before counts: continuity in the standard mode is that of the packets alone. A packet that is sent
--- again is dropped once. Over packets with no repeat and no discontinuity bit both modes give the same events.
+-- again is dropped once. Over packets with no repeat and no discontinuity bit both modes give the same events, but for StartStream.
 -- Assumes nothing.
 use mathlib.Core.Path.{_≡_, refl, sym, ap, ap₂, _∙_}
-use mathlib.Core.Bool.{Bool, true, false}
+use mathlib.Core.Bool.{Bool, true, false, not, _||_}
 use mathlib.Core.List.{List, [], _∷_, _++_}
 use Prim.Native.Nat.{ℕ, suc}
 use lib.Dec.{eqb}
@@ -11,8 +11,9 @@ use Rattle.bits.specs.Answer.{pick}
 use Rattle.bits.proofs.Bools.{false-true}
 use Rattle.control.specs.Control.{follows, compare}
 use Rattle.control.proofs.Laws.{apart}
-use Rattle.packet.specs.Packet.{counterField, payloadFlag}
+use Rattle.packet.specs.Packet.{startFlag, counterField, payloadFlag}
 use Rattle.log.specs.declared.Event.{Event}
+use Rattle.log.specs.Entry.{startStream}
 use Rattle.machine.specs.declared.Mode.{Mode}
 use Rattle.machine.specs.declared.Mode.the-variants.{Crate, Standard}
 use Rattle.machine.specs.declared.Phase.{Phase}
@@ -21,10 +22,12 @@ use Rattle.machine.specs.declared.Repeat.{Repeat}
 use Rattle.machine.specs.declared.Repeat.the-variants.{Barred, Open, Spent}
 use Rattle.machine.specs.declared.Continuity.{Continuity}
 use Rattle.machine.specs.declared.Continuity.the-variants.{GoesOn, Repeats, Breaks}
-use Rattle.machine.specs.Events.{asCounter, State, judged, discontinuity, continuityBy, continuity, eventsBy, eventsOf, phaseBy, lastBy, againBy, next, run}
-use Rattle.machine.specs.History.{first, inOrder, copies, isDropped, standardly, stateAt, NoRepeats}
+use Rattle.machine.specs.Events.{asCounter, State, judged, discontinuity, continuityBy, continuity}
+use Rattle.machine.specs.Events.{isBegin, due, announces, announcement, eventsBy, eventsOf, phaseBy, lastBy, againBy, next, run}
+use Rattle.machine.specs.History.{first, inOrder, copies, isDropped, standardly, stateAt, others, StartsUnbroken, NoRepeats}
 use Rattle.machine.proofs.Counters.{compared, on-first, repeat-last}
 use Rattle.machine.proofs.Original.{crate-continuity}
+use Rattle.machine.proofs.Theorems.{phase-then, phaseThen}
 use Rattle.machine.specs.Original.{continuous}
 
 -- ---- what a state keeps of the packet just before
@@ -81,7 +84,7 @@ by-two s p q c m l r =
     let k = counterField q in
     rw (m, l, r) (ap (pick (discontinuity q) GoesOn) (alike c (payloadFlag p) (payloadFlag q) (follows k n) (eqb k n) (apart k n)))
 
-mode-stays : (s : State) (p : List ℕ) → next s p .mode ≡ s .mode
+pub mode-stays : (s : State) (p : List ℕ) → next s p .mode ≡ s .mode
 unfolding next
 mode-stays s p = refl
 
@@ -90,7 +93,7 @@ after-one : (s : State) (p q : List ℕ) → s .mode ≡ Standard → continuity
     ≡ pick (discontinuity q) GoesOn (pick (inOrder p q) GoesOn (pick (copies p q) (pick (isDropped (continuity s p)) Breaks Repeats) Breaks))
 after-one s p q m = by-two (next s p) p q (continuity s p) (mode-stays s p ∙ m) (last-is s p) (again-is s p)
 
-mode-at : (ps : List (List ℕ)) → stateAt ps .mode ≡ Standard
+pub mode-at : (ps : List (List ℕ)) → stateAt ps .mode ≡ Standard
 unfolding stateAt
 mode-at [] = refl
 mode-at (p ∷ ps) = mode-stays (stateAt ps) p ∙ mode-at ps
@@ -150,7 +153,7 @@ module _ (p q : List ℕ) (d : discontinuity q ≡ false) (h : copies p q ≡ fa
 crate-drops-none : (s : State) (p : List ℕ) → s .mode ≡ Crate → isDropped (continuity s p) ≡ false
 crate-drops-none s p m =
     ap (λ (x : Mode). isDropped (continuityBy x (s .last) (s .again) p)) m
-    ∙ (ap isDropped (crate-continuity (s .phase) (s .last) (s .again) p) ∙ go (continuous (s .last) p))
+    ∙ (ap isDropped (crate-continuity (s .phase) (s .last) (s .again) (s .announced) p) ∙ go (continuous (s .last) p))
   where
     go : (b : Bool) → isDropped (pick b GoesOn Breaks) ≡ false
     go true = refl
@@ -167,34 +170,140 @@ clear p [] h = h
 clear p (q ∷ ps) h = h .0
 
 module _ (s t : State) (p : List ℕ) (f : s .phase ≡ t .phase) (e : continuity s p ≡ continuity t p) where
-  same-events : (i : ℕ) → eventsOf i s p ≡ eventsOf i t p
-  unfolding eventsOf
-  same-events i = ap₂ (λ (c : Continuity) (ph : Phase). eventsBy c i ph p) e f
+  same-by : (i : ℕ) → eventsBy (continuity s p) i (s .phase) p ≡ eventsBy (continuity t p) i (t .phase) p
+  same-by i = ap₂ (λ (c : Continuity) (ph : Phase). eventsBy c i ph p) e f
 
   same-phase : next s p .phase ≡ next t p .phase
   unfolding next
   same-phase = ap₂ (λ (c : Continuity) (ph : Phase). phaseBy c ph p) e f
 
+-- what the states after a packet that both judge alike keep for the next one
+module _ (s t : State) (p q : List ℕ) (m : s .mode ≡ Crate) (n : t .mode ≡ Standard) (e : continuity s p ≡ continuity t p) (d : discontinuity q ≡ false)
+    (h : copies p q ≡ false) where
+  alike-next : continuity (next s p) q ≡ continuity (next t p) q
+  alike-next =
+      let u : isDropped (continuity t p) ≡ false = ap isDropped (sym e) ∙ crate-drops-none s p m in
+      same-continuity p q d h (next s p) (next t p) (mode-stays s p ∙ m) (mode-stays t p ∙ n) (last-is s p) (last-is t p)
+      (again-is t p ∙ kept-open (continuity t p) (payloadFlag p) u)
+
+-- ---- .. but for StartStream
+
+others-append : (a b : List Event) → others (a ++ b) ≡ others a ++ others b
+unfolding others
+others-append [] b = refl
+others-append (x ∷ a) b = rw (others-append a b) (sym (go (eqb (x .kind) startStream)))
+  where
+    go : (t : Bool) → pick t (others a) (x ∷ others a) ++ others b ≡ pick t (others a ++ others b) (x ∷ (others a ++ others b))
+    go true = refl
+    go false = refl
+
+others-event : (i : ℕ) (s : State) (p : List ℕ) → others (eventsOf i s p) ≡ others (eventsBy (continuity s p) i (s .phase) p)
+unfolding eventsOf announcement others
+others-event i s p = go (announces s p) (eventsBy (continuity s p) i (s .phase) p)
+  where
+    go : (b : Bool) (es : List Event) → others (announcement b i ++ es) ≡ others es
+    go true es = refl
+    go false es = refl
+
+-- the first packet's events and then the others'
+joined : (ps : List (List ℕ)) (p : List ℕ) (i : ℕ) (s t : State) → s .phase ≡ t .phase → continuity s p ≡ continuity t p
+    → others (run (suc i) (next s p) ps) ≡ others (run (suc i) (next t p) ps) → others (run i s (p ∷ ps)) ≡ others (run i t (p ∷ ps))
+unfolding run
+joined ps p i s t f e h =
+    others-append (eventsOf i s p) _
+    ∙ (ap₂ (λ (x y : List Event). x ++ y) (others-event i s p ∙ (ap others (same-by s t p f e i) ∙ sym (others-event i t p))) h
+    ∙ sym (others-append (eventsOf i t p) _))
+
 -- from a first packet that both judge alike
 agree-from : (ps : List (List ℕ)) (p : List ℕ) (i : ℕ) (s t : State) → s .mode ≡ Crate → t .mode ≡ Standard → s .phase ≡ t .phase
-    → continuity s p ≡ continuity t p → NoRepeats (p ∷ ps) → run i s (p ∷ ps) ≡ run i t (p ∷ ps)
+    → continuity s p ≡ continuity t p → NoRepeats (p ∷ ps) → others (run i s (p ∷ ps)) ≡ others (run i t (p ∷ ps))
 unfolding run
-agree-from [] p i s t m n f e w = ap (λ (x : List Event). x ++ []) (same-events s t p f e i)
+agree-from [] p i s t m n f e w = joined [] p i s t f e refl
 agree-from (q ∷ ps) p i s t m n f e w =
-    let u : isDropped (continuity t p) ≡ false = ap isDropped (sym e) ∙ crate-drops-none s p m in
-    let r : next t p .again ≡ pick (payloadFlag p) Open Barred = again-is t p ∙ kept-open (continuity t p) (payloadFlag p) u in
-    let m′ = mode-stays s p ∙ m in
-    let n′ = mode-stays t p ∙ n in
-    let d = same-continuity p q (clear q ps (w .2)) (w .1) (next s p) (next t p) m′ n′ (last-is s p) (last-is t p) r in
-    ap₂ (λ (x y : List Event). x ++ y) (same-events s t p f e i) (agree-from ps q (suc i) (next s p) (next t p) m′ n′ (same-phase s t p f e) d (w .2))
+    joined (q ∷ ps) p i s t f e
+    (agree-from ps q (suc i) (next s p) (next t p) (mode-stays s p ∙ m) (mode-stays t p ∙ n) (same-phase s t p f e)
+    (alike-next s t p q m n e (clear q ps (w .2)) (w .1)) (w .2))
 
--- BOTH MODES GIVE THE SAME EVENTS over packets with no repeat and no discontinuity bit, from states with the same phase and no last counter
+first-alike : (s t : State) (p : List ℕ) → s .last ≡ Nothing → t .last ≡ Nothing → continuity s p ≡ continuity t p
+first-alike s t p k l = on-first (s .mode) (s .last) (s .again) p k ∙ sym (on-first (t .mode) (t .last) (t .again) p l)
+
+-- BOTH MODES GIVE THE SAME EVENTS, BUT FOR StartStream, over packets with no repeat and no discontinuity bit, from states with the same phase
+-- and no last counter
 pub modes-agree : (ps : List (List ℕ)) (i : ℕ) (s t : State) → s .mode ≡ Crate → t .mode ≡ Standard → s .phase ≡ t .phase
-    → s .last ≡ Nothing → t .last ≡ Nothing → NoRepeats ps → run i s ps ≡ run i t ps
+    → s .last ≡ Nothing → t .last ≡ Nothing → NoRepeats ps → others (run i s ps) ≡ others (run i t ps)
 unfolding run
 modes-agree [] i s t m n f k l w = refl
-modes-agree (p ∷ ps) i s t m n f k l w =
-    agree-from ps p i s t m n f (on-first (s .mode) (s .last) (s .again) p k ∙ sym (on-first (t .mode) (t .last) (t .again) p l)) w
+modes-agree (p ∷ ps) i s t m n f k l w = agree-from ps p i s t m n f (first-alike s t p k l) w
 
-pub first-agree : (i : ℕ) (ps : List (List ℕ)) → NoRepeats ps → run i (first Crate) ps ≡ run i (first Standard) ps
+pub first-agree : (i : ℕ) (ps : List (List ℕ)) → NoRepeats ps → others (run i (first Crate) ps) ≡ others (run i (first Standard) ps)
 first-agree i ps w = modes-agree ps i (first Crate) (first Standard) refl refl refl refl refl w
+
+-- ---- .. and StartStream too, where no break comes before the first start flag
+
+-- the phase is Begin exactly while the stream is not announced
+abbrev Together : State → State → Type 0
+Together s t = (s .phase ≡ t .phase) × (isBegin (s .phase) ≡ not (t .announced))
+
+same-due : (c : Continuity) (ph : Phase) (a b start : Bool) → isBegin ph ≡ not b → (c ≡ Breaks → isBegin ph ≡ false)
+    → due Crate c ph a start ≡ due Standard c ph b start
+same-due GoesOn ph a true true h k = h
+same-due GoesOn ph a false true h k = h
+same-due GoesOn ph a true false h k = refl
+same-due GoesOn ph a false false h k = refl
+same-due Repeats ph a true start h k = refl
+same-due Repeats ph a false start h k = refl
+same-due Breaks ph a true start h k = refl
+same-due Breaks ph a false start h k = sym (sym h ∙ k refl)
+
+still : (c : Continuity) (ph : Phase) (b start : Bool) → isBegin ph ≡ not b → isBegin (phaseThen c start ph) ≡ not (b || due Standard c ph b start)
+still GoesOn ph true true h = refl
+still GoesOn ph false true h = refl
+still GoesOn ph true false h = h
+still GoesOn ph false false h = h
+still Repeats ph true start h = h
+still Repeats ph false start h = h
+still Breaks ph true true h = refl
+still Breaks ph true false h = refl
+still Breaks ph false true h = refl
+still Breaks ph false false h = refl
+
+module _ (s t : State) (p : List ℕ) (m : s .mode ≡ Crate) (n : t .mode ≡ Standard) (g : Together s t) (e : continuity s p ≡ continuity t p) where
+  due-after : due Standard (continuity s p) (s .phase) (t .announced) (startFlag p) ≡ announces t p
+  unfolding announces
+  due-after =
+      ap₂ (λ (c : Continuity) (ph : Phase). due Standard c ph (t .announced) (startFlag p)) e (g .0)
+      ∙ ap (λ (mo : Mode). due mo (continuity t p) (t .phase) (t .announced) (startFlag p)) (sym n)
+
+  same-announced : (continuity s p ≡ Breaks → isBegin (s .phase) ≡ false) → announces s p ≡ announces t p
+  unfolding announces
+  same-announced b =
+      ap (λ (mo : Mode). due mo (continuity s p) (s .phase) (s .announced) (startFlag p)) m
+      ∙ (same-due (continuity s p) (s .phase) (s .announced) (t .announced) (startFlag p) (g .1) b ∙ due-after)
+
+  same-events : (i : ℕ) → (continuity s p ≡ Breaks → isBegin (s .phase) ≡ false) → eventsOf i s p ≡ eventsOf i t p
+  unfolding eventsOf
+  same-events i b = ap₂ (λ (x : Bool) (y : List Event). announcement x i ++ y) (same-announced b) (same-by s t p (g .0) e i)
+
+  together-next : Together (next s p) (next t p)
+  unfolding next
+  together-next = (
+    same-phase s t p (g .0) e,
+    ap isBegin (phase-then s p)
+        ∙ (still (continuity s p) (s .phase) (t .announced) (startFlag p) (g .1) ∙ ap (λ (b : Bool). not (t .announced || b)) due-after),
+  )
+
+same-from : (ps : List (List ℕ)) (p : List ℕ) (i : ℕ) (s t : State) → s .mode ≡ Crate → t .mode ≡ Standard → Together s t
+    → continuity s p ≡ continuity t p → NoRepeats (p ∷ ps) → StartsUnbroken s (p ∷ ps) → run i s (p ∷ ps) ≡ run i t (p ∷ ps)
+unfolding run
+same-from [] p i s t m n g e w b = ap (λ (x : List Event). x ++ []) (same-events s t p m n g e i (b .0))
+same-from (q ∷ ps) p i s t m n g e w b =
+    ap₂ (λ (x y : List Event). x ++ y) (same-events s t p m n g e i (b .0))
+    (same-from ps q (suc i) (next s p) (next t p) (mode-stays s p ∙ m) (mode-stays t p ∙ n) (together-next s t p m n g e)
+    (alike-next s t p q m n e (clear q ps (w .2)) (w .1)) (w .2) (b .1))
+
+-- BOTH MODES GIVE THE SAME EVENTS from a fresh state over packets with no repeat, no discontinuity bit and no break before the first start flag
+pub first-same : (i : ℕ) (ps : List (List ℕ)) → NoRepeats ps → StartsUnbroken (first Crate) ps → run i (first Crate) ps ≡ run i (first Standard) ps
+unfolding run
+first-same i [] w b = refl
+first-same i (p ∷ ps) w b =
+    same-from ps p i (first Crate) (first Standard) refl refl (refl, refl) (first-alike (first Crate) (first Standard) p refl refl) w b

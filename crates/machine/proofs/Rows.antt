@@ -11,7 +11,7 @@ use types.Run.{OneOf}
 use denote.Enum.Declared.{tagOf}
 use borrow.Author.Needs.{needs}
 use borrow.Author.Tests.{lt-ltb, le-ltb, ne-eqb, ltb-false}
-use Rattle.bits.specs.Answer.{pick, firstOf, other}
+use Rattle.bits.specs.Answer.{pick, firstOf, other, truth}
 use Rattle.bits.proofs.Bools.{false-true}
 use Rattle.control.specs.declared.ContinuityCounter.{ContinuityCounter}
 use Rattle.control.specs.Control.{counterOf}
@@ -200,24 +200,28 @@ module _ (xs : List ℕ) (r₀ : ModeRead) (e₀ : r₀ ≡ modeRead (getD xs 0 
           abbrev h₃ : (ltb 2 (getD xs 3 0) ≡ false) × (ag ≡ againOf (getD xs 3 0))
           h₃ = again-stands (getD xs 3 0) r₃ e₃ ag f₃
 
-          pub stray-count : 4294967295 < getD xs 4 0 → Stray ≡ machineOf xs
+          pub stray-announced : 1 < getD xs 4 0 → Stray ≡ machineOf xs
           unfolding machineOf strays
-          stray-count h = simp (h₀ .0, h₁ .0, h₂ .0, h₃ .0, lt-ltb 4294967295 (getD xs 4 0) h)
+          stray-announced h = simp (h₀ .0, h₁ .0, h₂ .0, h₃ .0, lt-ltb 1 (getD xs 4 0) h)
+
+          pub stray-count : getD xs 4 0 ≤ 1 → 4294967295 < getD xs 5 0 → Stray ≡ machineOf xs
+          unfolding machineOf strays
+          stray-count g h = simp (h₀ .0, h₁ .0, h₂ .0, h₃ .0, le-ltb 1 (getD xs 4 0) g, lt-ltb 4294967295 (getD xs 5 0) h)
 
 -- all stand for something
 pub row-stands : (xs : List ℕ) (mo : Mode) (ph : Phase) (la : Last) (ag : Repeat) → modeRead (getD xs 0 0) ≡ ModeRead.Is mo → phaseRead (getD xs 1 0) ≡ PhaseRead.Is ph
-    → lastRead (getD xs 2 0) ≡ LastRead.Is la → againRead (getD xs 3 0) ≡ AgainRead.Is ag → getD xs 4 0 ≤ 4294967295
-    → Is (machine mo ph la ag (getD xs 4 0) (getD xs 5 0)) ≡ machineOf xs
+    → lastRead (getD xs 2 0) ≡ LastRead.Is la → againRead (getD xs 3 0) ≡ AgainRead.Is ag → getD xs 4 0 ≤ 1 → getD xs 5 0 ≤ 4294967295
+    → Is (machine mo ph la ag (eqb (getD xs 4 0) 1) (getD xs 5 0) (getD xs 6 0)) ≡ machineOf xs
 unfolding machineOf strays
-row-stands xs mo ph la ag f₀ f₁ f₂ f₃ h =
+row-stands xs mo ph la ag f₀ f₁ f₂ f₃ g h =
     let h₀ = mode-stands (getD xs 0 0) _ refl mo f₀ in
     let h₁ = phase-stands (getD xs 1 0) _ refl ph f₁ in
     let h₂ = last-stands (getD xs 2 0) _ refl la f₂ in
     let h₃ = again-stands (getD xs 3 0) _ refl ag f₃ in
-    simp (h₀ .0, h₁ .0, h₂ .0, h₃ .0, le-ltb 4294967295 (getD xs 4 0) h, h₀ .1, h₁ .1, h₂ .1, h₃ .1)
+    simp (h₀ .0, h₁ .0, h₂ .0, h₃ .0, le-ltb 1 (getD xs 4 0) g, le-ltb 4294967295 (getD xs 5 0) h, h₀ .1, h₁ .1, h₂ .1, h₃ .1)
 
 pub row-is : (m : Machine) (a b c d : ℕ) → a ≡ modeNumber (m .mode) → b ≡ phaseNumber (m .phase) → c ≡ lastNumber (m .last) → d ≡ againNumber (m .again)
-    → a ∷ b ∷ c ∷ d ∷ m .taken ∷ m .place ∷ [] ≡ rowOf m
+    → a ∷ b ∷ c ∷ d ∷ truth (m .announced) ∷ m .taken ∷ m .place ∷ [] ≡ rowOf m
 unfolding rowOf
 row-is m a b c d e f g h = rw (e, f, g, h)
 
@@ -248,6 +252,10 @@ again-back Barred = (refl, refl)
 again-back Open = (refl, refl)
 again-back Spent = (refl, refl)
 
+announced-back : (a : Bool) → (ltb 1 (truth a) ≡ false) × (eqb (truth a) 1 ≡ a)
+announced-back true = (refl, refl)
+announced-back false = (refl, refl)
+
 -- the row of a machine stands for that machine
 pub row-back : (m : Machine) → wrongLast (m .last) ≡ false → m .taken ≤ 4294967295 → machineOf (rowOf m) ≡ Is m
 unfolding machineOf strays rowOf
@@ -256,7 +264,8 @@ row-back m h k =
     let b = phase-back (m .phase) in
     let c = last-back (m .last) h in
     let d = again-back (m .again) in
-    simp (a .0, a .1, b .0, b .1, c .0, c .1, d .0, d .1, le-ltb 4294967295 (m .taken) k)
+    let e = announced-back (m .announced) in
+    simp (a .0, a .1, b .0, b .1, c .0, c .1, d .0, d .1, e .0, e .1, le-ltb 4294967295 (m .taken) k)
 
 -- what the functions' proofs search
-pub ruleset row-laws = (last-none, last-strays-high, last-at, stray-mode, stray-phase, stray-last, stray-again, stray-count, row-is, needs)
+pub ruleset row-laws = (last-none, last-strays-high, last-at, stray-mode, stray-phase, stray-last, stray-again, stray-announced, stray-count, row-is, needs)

@@ -1,5 +1,6 @@
--- Corners of continuity, as rows: from a state, these packets, the continuity of each and the kinds of its events.
+-- Corners of continuity and of StartStream, as rows: from a state, these packets, the continuity of each and the kinds of its events.
 use mathlib.Core.Path.{_≡_}
+use mathlib.Core.Bool.{true, false}
 use mathlib.Core.List.{List, [], _∷_, map}
 use Prim.Native.Nat.{ℕ, suc, _+_}
 use lib.ListN.{replicate}
@@ -61,27 +62,37 @@ std = first Standard
 -- StartStream 1, BeginPacket 2, ContinuePacket 3, EndPacket 4, ContinuityError 5
 abbrev pub corners : List Corner
 corners =
-    corner std (P 5 ∷ P 5 ∷ P 5 ∷ P 5 ∷ P 5 ∷ []) (GoesOn ∷ Repeats ∷ Breaks ∷ Repeats ∷ Breaks ∷ []) ([] ∷ [] ∷ (5 ∷ []) ∷ [] ∷ (5 ∷ []) ∷ [])
-    ∷ corner std (P 5 ∷ A 5 ∷ P 5 ∷ []) (GoesOn ∷ GoesOn ∷ Breaks ∷ []) ([] ∷ [] ∷ (5 ∷ []) ∷ [])
-    ∷ corner std (A 5 ∷ P 5 ∷ []) (GoesOn ∷ Breaks ∷ []) ([] ∷ (5 ∷ []) ∷ [])
+    corner std (P 5 ∷ P 5 ∷ P 5 ∷ P 5 ∷ P 5 ∷ []) (GoesOn ∷ Repeats ∷ Breaks ∷ Repeats ∷ Breaks ∷ []) ([] ∷ [] ∷ (1 ∷ 5 ∷ []) ∷ [] ∷ (5 ∷ []) ∷ [])
+    ∷ corner std (P 5 ∷ A 5 ∷ P 5 ∷ []) (GoesOn ∷ GoesOn ∷ Breaks ∷ []) ([] ∷ [] ∷ (1 ∷ 5 ∷ []) ∷ [])
+    ∷ corner std (A 5 ∷ P 5 ∷ []) (GoesOn ∷ Breaks ∷ []) ([] ∷ (1 ∷ 5 ∷ []) ∷ [])
     ∷ corner std (P 5 ∷ P 5 ∷ P 6 ∷ P 6 ∷ []) (GoesOn ∷ Repeats ∷ GoesOn ∷ Repeats ∷ []) ([] ∷ [] ∷ [] ∷ [] ∷ [])
     ∷ corner std (P 5 ∷ D 9 ∷ P 9 ∷ P 10 ∷ []) (GoesOn ∷ GoesOn ∷ Repeats ∷ GoesOn ∷ []) ([] ∷ [] ∷ [] ∷ [] ∷ [])
     ∷ corner std (P 5 ∷ D 5 ∷ []) (GoesOn ∷ GoesOn ∷ []) ([] ∷ [] ∷ [])
-    ∷ corner std (P 5 ∷ P 5 ∷ A 5 ∷ P 5 ∷ []) (GoesOn ∷ Repeats ∷ GoesOn ∷ Breaks ∷ []) ([] ∷ [] ∷ [] ∷ (5 ∷ []) ∷ [])
+    ∷ corner std (P 5 ∷ P 5 ∷ A 5 ∷ P 5 ∷ []) (GoesOn ∷ Repeats ∷ GoesOn ∷ Breaks ∷ []) ([] ∷ [] ∷ [] ∷ (1 ∷ 5 ∷ []) ∷ [])
     ∷ corner std (P 5 ∷ S 5 ∷ []) (GoesOn ∷ Repeats ∷ []) ([] ∷ [] ∷ [])
     ∷ corner std (P 5 ∷ P 5 ∷ D 5 ∷ P 5 ∷ []) (GoesOn ∷ Repeats ∷ GoesOn ∷ Repeats ∷ []) ([] ∷ [] ∷ [] ∷ [] ∷ [])
     ∷ corner std (D 9 ∷ D 9 ∷ P 9 ∷ []) (GoesOn ∷ GoesOn ∷ Repeats ∷ []) ([] ∷ [] ∷ [] ∷ [])
-    ∷ corner std (P 5 ∷ B 9 ∷ P 9 ∷ P 9 ∷ []) (GoesOn ∷ GoesOn ∷ Breaks ∷ Repeats ∷ []) ([] ∷ [] ∷ (5 ∷ []) ∷ [] ∷ [])
+    ∷ corner std (P 5 ∷ B 9 ∷ P 9 ∷ P 9 ∷ []) (GoesOn ∷ GoesOn ∷ Breaks ∷ Repeats ∷ []) ([] ∷ [] ∷ (1 ∷ 5 ∷ []) ∷ [] ∷ [])
     ∷ corner std (P 5 ∷ B 9 ∷ P 10 ∷ []) (GoesOn ∷ GoesOn ∷ GoesOn ∷ []) ([] ∷ [] ∷ [] ∷ [])
-    ∷ corner std (P 5 ∷ P 9 ∷ P 9 ∷ []) (GoesOn ∷ Breaks ∷ Repeats ∷ []) ([] ∷ (5 ∷ []) ∷ [] ∷ [])
-    ∷ corner std (P 5 ∷ F 5 ∷ F 9 ∷ []) (GoesOn ∷ Repeats ∷ Breaks ∷ []) ([] ∷ [] ∷ (5 ∷ []) ∷ [])
+    ∷ corner std (P 5 ∷ P 9 ∷ P 9 ∷ []) (GoesOn ∷ Breaks ∷ Repeats ∷ []) ([] ∷ (1 ∷ 5 ∷ []) ∷ [] ∷ [])
+    ∷ corner std (P 5 ∷ F 5 ∷ F 9 ∷ []) (GoesOn ∷ Repeats ∷ Breaks ∷ []) ([] ∷ [] ∷ (1 ∷ 5 ∷ []) ∷ [])
     ∷ corner std (P 15 ∷ P 0 ∷ P 0 ∷ P 1 ∷ []) (GoesOn ∷ GoesOn ∷ Repeats ∷ GoesOn ∷ []) ([] ∷ [] ∷ [] ∷ [] ∷ [])
     ∷ corner std (S 5 ∷ S 5 ∷ P 6 ∷ P 6 ∷ S 7 ∷ []) (GoesOn ∷ Repeats ∷ GoesOn ∷ Repeats ∷ GoesOn ∷ []) ((1 ∷ 2 ∷ []) ∷ [] ∷ (3 ∷ []) ∷ [] ∷ (4 ∷ 2 ∷ []) ∷ [])
-    ∷ corner std (P 5 ∷ S 9 ∷ P 10 ∷ []) (GoesOn ∷ Breaks ∷ GoesOn ∷ []) ([] ∷ (5 ∷ 2 ∷ []) ∷ (3 ∷ []) ∷ [])
-    ∷ corner (state Standard Started Nothing Open) (P 5 ∷ []) (GoesOn ∷ []) ((3 ∷ []) ∷ [])
-    ∷ corner (state Standard Begin (At (asCounter 5)) Open) (S 5 ∷ S 5 ∷ []) (Repeats ∷ Breaks ∷ []) ([] ∷ (5 ∷ 2 ∷ []) ∷ [])
-    ∷ corner (state Standard IgnoreRest (At (asCounter 5)) Barred) (P 5 ∷ []) (Breaks ∷ []) ((5 ∷ []) ∷ [])
-    ∷ corner (state Standard Started (At (asCounter 5)) Spent) (P 5 ∷ P 5 ∷ []) (Breaks ∷ Repeats ∷ []) ((5 ∷ []) ∷ [] ∷ [])
+    ∷ corner std (P 5 ∷ S 9 ∷ P 10 ∷ []) (GoesOn ∷ Breaks ∷ GoesOn ∷ []) ([] ∷ (1 ∷ 5 ∷ 2 ∷ []) ∷ (3 ∷ []) ∷ [])
+    ∷ corner std (P 5 ∷ S 5 ∷ S 5 ∷ []) (GoesOn ∷ Repeats ∷ Breaks ∷ []) ([] ∷ [] ∷ (1 ∷ 5 ∷ 2 ∷ []) ∷ [])
+    ∷ corner std (P 5 ∷ P 9 ∷ P 11 ∷ S 12 ∷ []) (GoesOn ∷ Breaks ∷ Breaks ∷ GoesOn ∷ []) ([] ∷ (1 ∷ 5 ∷ []) ∷ (5 ∷ []) ∷ (2 ∷ []) ∷ [])
+    ∷ corner std (S 5 ∷ P 9 ∷ S 11 ∷ []) (GoesOn ∷ Breaks ∷ Breaks ∷ []) ((1 ∷ 2 ∷ []) ∷ (5 ∷ []) ∷ (5 ∷ 2 ∷ []) ∷ [])
+    ∷ corner (state Standard Started Nothing Open true) (P 5 ∷ []) (GoesOn ∷ []) ((3 ∷ []) ∷ [])
+    ∷ corner (state Standard Started Nothing Open false) (P 5 ∷ S 6 ∷ S 7 ∷ []) (GoesOn ∷ GoesOn ∷ GoesOn ∷ []) ((3 ∷ []) ∷ (1 ∷ 4 ∷ 2 ∷ []) ∷ (4 ∷ 2 ∷ []) ∷ [])
+    ∷ corner (state Standard Started (At (asCounter 5)) Open false) (S 9 ∷ []) (Breaks ∷ []) ((1 ∷ 5 ∷ 2 ∷ []) ∷ [])
+    ∷ corner (state Standard Begin Nothing Barred true) (S 5 ∷ S 6 ∷ []) (GoesOn ∷ GoesOn ∷ []) ((2 ∷ []) ∷ (4 ∷ 2 ∷ []) ∷ [])
+    ∷ corner (state Standard Begin (At (asCounter 5)) Open false) (S 5 ∷ S 5 ∷ []) (Repeats ∷ Breaks ∷ []) ([] ∷ (1 ∷ 5 ∷ 2 ∷ []) ∷ [])
+    ∷ corner (state Standard Begin (At (asCounter 5)) Open true) (S 5 ∷ S 5 ∷ []) (Repeats ∷ Breaks ∷ []) ([] ∷ (5 ∷ 2 ∷ []) ∷ [])
+    ∷ corner (state Standard IgnoreRest (At (asCounter 5)) Barred false) (P 5 ∷ []) (Breaks ∷ []) ((1 ∷ 5 ∷ []) ∷ [])
+    ∷ corner (state Standard IgnoreRest (At (asCounter 5)) Open false) (P 6 ∷ S 7 ∷ []) (GoesOn ∷ GoesOn ∷ []) ([] ∷ (1 ∷ 2 ∷ []) ∷ [])
+    ∷ corner (state Standard Started (At (asCounter 5)) Spent true) (P 5 ∷ P 5 ∷ []) (Breaks ∷ Repeats ∷ []) ((5 ∷ []) ∷ [] ∷ [])
     ∷ corner (first Crate) (P 5 ∷ P 5 ∷ S 6 ∷ D 9 ∷ []) (GoesOn ∷ Breaks ∷ GoesOn ∷ Breaks ∷ []) ([] ∷ (5 ∷ []) ∷ (2 ∷ []) ∷ (5 ∷ []) ∷ [])
-    ∷ corner (state Crate Begin (At (asCounter 5)) Open) (P 5 ∷ []) (Breaks ∷ []) ((5 ∷ []) ∷ [])
+    ∷ corner (state Crate Begin (At (asCounter 5)) Open false) (P 5 ∷ []) (Breaks ∷ []) ((5 ∷ []) ∷ [])
+    ∷ corner (state Crate Begin Nothing Barred true) (S 5 ∷ []) (GoesOn ∷ []) ((1 ∷ 2 ∷ []) ∷ [])
+    ∷ corner (state Crate Started Nothing Barred false) (S 5 ∷ []) (GoesOn ∷ []) ((4 ∷ 2 ∷ []) ∷ [])
     ∷ []

@@ -3,11 +3,13 @@
 use mathlib.Core.Path.{_≡_}
 use mathlib.Core.Bool.{Bool, true, false}
 use mathlib.Core.List.{List, [], _∷_}
-use Prim.Native.Nat.{ℕ}
+use Prim.Native.Nat.{ℕ, suc}
 use lib.Dec.{eqb}
 use Rattle.bits.specs.Answer.{pick}
 use Rattle.control.specs.Control.{follows}
-use Rattle.packet.specs.Packet.{counterField, payloadFlag}
+use Rattle.packet.specs.Packet.{startFlag, counterField, payloadFlag}
+use Rattle.log.specs.declared.Event.{Event}
+use Rattle.log.specs.Entry.{startStream}
 use Rattle.machine.specs.declared.Mode.{Mode}
 use Rattle.machine.specs.declared.Mode.the-variants.{Standard}
 use Rattle.machine.specs.declared.Phase.the-variants.{Begin}
@@ -15,11 +17,11 @@ use Rattle.machine.specs.declared.Last.the-variants.{Nothing}
 use Rattle.machine.specs.declared.Repeat.the-variants.{Barred}
 use Rattle.machine.specs.declared.Continuity.{Continuity}
 use Rattle.machine.specs.declared.Continuity.the-variants.{GoesOn, Repeats, Breaks}
-use Rattle.machine.specs.Events.{State, state, discontinuity, continuity, next}
+use Rattle.machine.specs.Events.{State, state, discontinuity, continuity, calls, isBegin, next}
 
 -- before the first packet of a stream
 abbrev pub first : Mode → State
-first mo = state mo Begin Nothing Barred
+first mo = state mo Begin Nothing Barred false
 
 -- q after p: with the payload flag the counter follows, without it is equal
 abbrev pub inOrder : List ℕ → List ℕ → Bool
@@ -54,6 +56,35 @@ stateAt (p ∷ ps) = next (stateAt ps) p
 unfoldable pub continuities : State → List (List ℕ) → List Continuity
 continuities s [] = []
 continuities s (p ∷ ps) = continuity s p ∷ continuities (next s p) ps
+
+-- the place in a list of the first packet that is not dropped and has the start flag or is a break, the list's first being the i-th: none or
+-- one. By the states on the way; and by the packets alone, qs being those before the list
+unfoldable pub firstCall : ℕ → State → List (List ℕ) → List ℕ
+firstCall i s [] = []
+firstCall i s (p ∷ ps) = pick (calls (continuity s p) (startFlag p)) (i ∷ []) (firstCall (suc i) (next s p) ps)
+
+unfoldable pub firstCalled : ℕ → List (List ℕ) → List (List ℕ) → List ℕ
+firstCalled i qs [] = []
+firstCalled i qs (p ∷ ps) = pick (calls (standardly (p ∷ qs)) (startFlag p)) (i ∷ []) (firstCalled (suc i) (p ∷ qs) ps)
+
+-- no event, or StartStream first
+abbrev pub StartsFirst : List Event → Type 0
+StartsFirst [] = Unit {0}
+StartsFirst (e ∷ es) = e .kind ≡ startStream
+
+-- the packets of the StartStreams of a list of events; and the list without them
+unfoldable pub starts : List Event → List ℕ
+starts [] = []
+starts (e ∷ es) = pick (eqb (e .kind) startStream) (e .index ∷ starts es) (starts es)
+
+unfoldable pub others : List Event → List Event
+others [] = []
+others (e ∷ es) = pick (eqb (e .kind) startStream) (others es) (e ∷ others es)
+
+-- no packet breaks while the phase is Begin: before the first with the start flag
+abbrev pub StartsUnbroken : State → List (List ℕ) → Type 0
+StartsUnbroken s [] = Unit {0}
+StartsUnbroken s (p ∷ ps) = (continuity s p ≡ Breaks → isBegin (s .phase) ≡ false) × StartsUnbroken (next s p) ps
 
 -- packets with no discontinuity bit, none of which has the counter of the one just before it, both with the payload flag
 abbrev pub NoRepeats : List (List ℕ) → Type 0

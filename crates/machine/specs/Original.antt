@@ -7,12 +7,12 @@ use Rattle.bits.specs.Answer.{pick}
 use Rattle.control.specs.Control.{follows}
 use Rattle.packet.specs.Packet.{startFlag, counterField, payloadFlag}
 use Rattle.log.specs.declared.Event.{Event}
-use Rattle.log.specs.Entry.{continuityError}
+use Rattle.log.specs.Entry.{startStream, endPacket, continuityError}
 use Rattle.machine.specs.declared.Phase.{Phase}
-use Rattle.machine.specs.declared.Phase.the-variants.{Started, IgnoreRest}
+use Rattle.machine.specs.declared.Phase.the-variants.{Begin, Started, IgnoreRest}
 use Rattle.machine.specs.declared.Last.{Last}
 use Rattle.machine.specs.declared.Last.the-variants.{Nothing, At}
-use Rattle.machine.specs.Events.{asCounter, eventAlone, rest}
+use Rattle.machine.specs.Events.{asCounter, eventAlone, begun, continued}
 
 -- with the payload flag the counter follows the last, without it is equal; none is always continuous
 unfoldable pub continuous : Last → List ℕ → Bool
@@ -26,9 +26,19 @@ broken c i = pick c [] (eventAlone continuityError i ∷ [])
 abbrev pub settled : Bool → Phase → Phase
 settled c ph = pick c ph IgnoreRest
 
+-- on the start flag: Started gives EndPacket, Begin gives StartStream ..
+abbrev pub opened : Phase → ℕ → List Event
+opened Begin i = eventAlone startStream i ∷ []
+opened Started i = eventAlone endPacket i ∷ []
+opened IgnoreRest i = []
+
+-- .. and then the payload's event comes; without it, the payload's alone
+abbrev pub originalRest : Phase → ℕ → List ℕ → List Event
+originalRest ph i p = pick (startFlag p) (opened ph i ++ begun i p) (continued ph i p)
+
 -- the events of a packet, as the i-th
 unfoldable pub originalEvents : ℕ → Phase → Last → List ℕ → List Event
-originalEvents i ph l p = broken (continuous l p) i ++ rest (settled (continuous l p) ph) i p
+originalEvents i ph l p = broken (continuous l p) i ++ originalRest (settled (continuous l p) ph) i p
 
 -- the phase after it, and the counter, which is stored
 unfoldable pub originalPhase : Phase → Last → List ℕ → Phase

@@ -1,11 +1,11 @@
 -- A machine as the numbers that a host keeps, in this order: mode 0 Crate, 1 Standard; phase 0 Begin, 1 Started, 2 IgnoreRest; last counter
--- 0 to 15, or 255 for none; repeat 0 Barred, 1 Open, 2 Spent; packets taken; next free place of the log.
+-- 0 to 15, or 255 for none; repeat 0 Barred, 1 Open, 2 Spent; announced 0 no, 1 yes; packets taken; next free place of the log.
 use mathlib.Core.Bool.{Bool, true, false, _||_}
 use mathlib.Core.List.{List, [], _∷_}
 use Prim.Native.Nat.{ℕ}
 use lib.Dec.{eqb, ltb}
 use lib.ListN.{getD}
-use Rattle.bits.specs.Answer.{pick, firstOf}
+use Rattle.bits.specs.Answer.{pick, firstOf, truth}
 use Rattle.bits.specs.Numbers.{done}
 use Rattle.machine.specs.declared.Mode.{Mode}
 use Rattle.machine.specs.declared.Mode.the-variants.{Crate, Standard}
@@ -64,20 +64,23 @@ againNumber Spent = 2
 abbrev pub noLast : ℕ → Bool
 noLast n = pick (eqb n 255) false (ltb 15 n)
 
--- a number that stands for nothing: a mode above 1, a phase above 2, no counter, a repeat above 2, a count above 32 bits
+-- a number that stands for nothing: a mode above 1, a phase above 2, no counter, a repeat above 2, announced above 1, a count above 32 bits
 unfoldable pub strays : List ℕ → Bool
 strays xs =
-    ltb 1 (getD xs 0 0) || ltb 2 (getD xs 1 0) || noLast (getD xs 2 0) || ltb 2 (getD xs 3 0) || ltb 4_294_967_295 (getD xs 4 0)
+    ltb 1 (getD xs 0 0) || ltb 2 (getD xs 1 0) || noLast (getD xs 2 0) || ltb 2 (getD xs 3 0) || ltb 1 (getD xs 4 0)
+    || ltb 4_294_967_295 (getD xs 5 0)
 
 -- THE MACHINE THAT A ROW STANDS FOR, if for one
 unfoldable pub machineOf : List ℕ → RowRead
 machineOf xs =
     pick (strays xs) Stray
-    (Is (machine (modeOf (getD xs 0 0)) (phaseOf (getD xs 1 0)) (lastOf (getD xs 2 0)) (againOf (getD xs 3 0)) (getD xs 4 0) (getD xs 5 0)))
+    (Is (machine (modeOf (getD xs 0 0)) (phaseOf (getD xs 1 0)) (lastOf (getD xs 2 0)) (againOf (getD xs 3 0)) (eqb (getD xs 4 0) 1)
+    (getD xs 5 0) (getD xs 6 0)))
 
 -- THE ROW OF A MACHINE
 unfoldable pub rowOf : Machine → List ℕ
-rowOf m = modeNumber (m .mode) ∷ phaseNumber (m .phase) ∷ lastNumber (m .last) ∷ againNumber (m .again) ∷ m .taken ∷ m .place ∷ []
+rowOf m =
+    modeNumber (m .mode) ∷ phaseNumber (m .phase) ∷ lastNumber (m .last) ∷ againNumber (m .again) ∷ truth (m .announced) ∷ m .taken ∷ m .place ∷ []
 
 -- ---- a step over a row: its number, and the row and the log after it
 

@@ -1,6 +1,6 @@
 // A machine as the row of numbers that a host keeps and lends: mode 0, 1 for Crate and Standard; phase 0, 1, 2 for Begin, Started and
-// IgnoreRest; the last counter or 255 for none; 0, 1, 2 for Barred, Open and Spent; the packets taken so far; and the next free place of
-// the log.
+// IgnoreRest; the last counter or 255 for none; 0, 1, 2 for Barred, Open and Spent; whether the stream was announced, 0 or 1; the packets
+// taken so far; and the next free place of the log.
 ghost use mathlib.Core.Path.{_≡_};
 ghost use Rattle.machine.specs.Row.{modeRead, phaseRead, lastRead, againRead, modeNumber, phaseNumber, lastNumber, againNumber, machineOf, rowOf};
 use crate::Last;
@@ -120,15 +120,16 @@ fn again_number(r: Repeat) -> u64
     }
 }
 
-pub fn read(row: &[u64; 6]) -> RowRead
+pub fn read(row: &[u64; 7]) -> RowRead
     ensures { λ r. ⌜ r ≡ machineOf (now (row .entry)) ⌝ }
 {
     let mode = row[0];
     let phase = row[1];
     let last = row[2];
     let again = row[3];
-    let taken = row[4];
-    let place = row[5];
+    let announced = row[4];
+    let taken = row[5];
+    let place = row[6];
     let ModeRead::Is(mo) = mode_of(mode) else {
         return RowRead::Stray;
     };
@@ -141,6 +142,9 @@ pub fn read(row: &[u64; 6]) -> RowRead
     let AgainRead::Is(ag) = again_of(again) else {
         return RowRead::Stray;
     };
+    if 1 < announced {
+        return RowRead::Stray;
+    }
     if 4294967295 < taken {
         return RowRead::Stray;
     }
@@ -149,12 +153,13 @@ pub fn read(row: &[u64; 6]) -> RowRead
         phase: ph,
         last: la,
         again: ag,
+        announced: announced == 1,
         taken: taken as u32,
         place: place as usize,
     })
 }
 
-pub fn write(m: Machine, row: &mut [u64; 6])
+pub fn write(m: Machine, row: &mut [u64; 7])
     ensures { λ _. ⌜ now (row .exit) ≡ rowOf m ⌝ }
 {
     let mo = m.mode;
@@ -166,6 +171,7 @@ pub fn write(m: Machine, row: &mut [u64; 6])
         phase_number(ph),
         last_number(la),
         again_number(ag),
+        m.announced as u64,
         m.taken as u64,
         m.place as u64,
     ];

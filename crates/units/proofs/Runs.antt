@@ -17,9 +17,9 @@ use Rattle.machine.specs.declared.Phase.{Phase}
 use Rattle.machine.specs.declared.Phase.the-variants.{Begin, Started, IgnoreRest}
 use Rattle.machine.specs.declared.Continuity.{Continuity}
 use Rattle.machine.specs.declared.Continuity.the-variants.{GoesOn, Repeats, Breaks}
-use Rattle.machine.specs.Events.{State, headAccepted, continuity, atStart, begun, continued, eventsOf, next, run}
+use Rattle.machine.specs.Events.{State, headAccepted, continuity, calls, announces, announcement, ended, begun, continued, eventsOf, next, run}
 use Rattle.machine.specs.Run.{IsPacket}
-use Rattle.machine.proofs.Theorems.{happened, events-are, phaseThen, phase-then}
+use Rattle.machine.proofs.Theorems.{happened, events-are, phaseThen, phase-then, leftIn, none-left, started-next}
 use Rattle.gather.specs.declared.Lies.the-variants.{Store}
 use Rattle.gather.specs.Gather.{gathering, emptied}
 use Rattle.units.specs.Units.{Standing, called, gatherAll, answers, readAt, unitBytes}
@@ -68,20 +68,28 @@ module _ (n i : ℕ) (p : List ℕ) (b : i < n) where
       nested (Sound n) (payloadThere p) true (event 3 i a (188 - a)) (λ f. omega (arith, payload-below p f))
   sound-continued IgnoreRest = tt
 
-  sound-opened : (ph : Phase) → All (Sound n) (atStart ph i)
-  sound-opened Begin = (omega arith, tt)
-  sound-opened Started = (omega arith, tt)
-  sound-opened IgnoreRest = tt
+  sound-announced : (t : Bool) → All (Sound n) (announcement t i)
+  unfolding announcement
+  sound-announced true = (omega arith, tt)
+  sound-announced false = tt
+
+  sound-ended : (ph : Phase) → All (Sound n) (ended ph i)
+  sound-ended Begin = tt
+  sound-ended Started = (omega arith, tt)
+  sound-ended IgnoreRest = tt
 
   sound-happened : (c : Continuity) (s : Bool) (ph : Phase) → All (Sound n) (happened c s ph i p)
-  sound-happened GoesOn true ph = all-append (Sound n) (atStart ph i) (begun i p) (sound-opened ph) sound-begun
+  sound-happened GoesOn true ph = all-append (Sound n) (ended ph i) (begun i p) (sound-ended ph) sound-begun
   sound-happened GoesOn false ph = sound-continued ph
   sound-happened Repeats s ph = tt
   sound-happened Breaks true ph = (omega arith, sound-begun)
   sound-happened Breaks false ph = (omega arith, tt)
 
   sound-events : (s : State) → All (Sound n) (eventsOf i s p)
-  sound-events s = rw (events-are i s p) (sound-happened (continuity s p) (startFlag p) (s .phase))
+  sound-events s =
+      rw (events-are i s p)
+      (all-append (Sound n) (announcement (announces s p) i) (happened (continuity s p) (startFlag p) (s .phase) i p) (sound-announced (announces s p))
+      (sound-happened (continuity s p) (startFlag p) (s .phase)))
 
 sound-run : (n i : ℕ) (s : State) (ps : List (List ℕ)) → i + length ps ≤ n → All (Sound n) (run i s ps)
 unfolding run
@@ -114,14 +122,16 @@ orderly-happened GoesOn false ph i p r e h = rw e (go (payloadThere p))
 orderly-happened Repeats s ph i p r e h = h e
 orderly-happened Breaks s ph i p r e h = inr (inl refl)
 
-orderly-run : (i : ℕ) (s : State) (ps : List (List ℕ)) → s .phase ≡ Started → Orderly (run i s ps)
-unfolding run
-orderly-run i s [] e = tt
-orderly-run i s (p ∷ ps) e =
-    rw (events-are i s p) (orderly-happened (continuity s p) (startFlag p) (s .phase) i p (run (suc i) (next s p) ps) e
-    (λ f. orderly-run (suc i) (next s p) ps (phase-then s p ∙ f)))
+-- .. where no StartStream is left to be given
+orderly-run : (i : ℕ) (s : State) (ps : List (List ℕ)) → s .phase ≡ Started → leftIn s ≡ 0 → Orderly (run i s ps)
+unfolding run announcement
+orderly-run i s [] e l = tt
+orderly-run i s (p ∷ ps) e l =
+    let n = none-left s p l in
+    rw (events-are i s p, n .0) (orderly-happened (continuity s p) (startFlag p) (s .phase) i p (run (suc i) (next s p) ps) e
+    (λ f. orderly-run (suc i) (next s p) ps (phase-then s p ∙ f) (n .1)))
 
--- a begin is its packet's last event, and leaves the phase Started
+-- a begin is its packet's last event, and leaves the phase Started and no StartStream
 NotTwo : Event → Type 0
 NotTwo e = e .kind ≡ 2 → ⊥
 
@@ -130,11 +140,16 @@ unfolding NotTwo
 past [] r h k = k
 past (e ∷ a) r h k = (λ z. absurd (h .0 z), past a r (h .1) k)
 
-not-opened : (ph : Phase) (i : ℕ) → All NotTwo (atStart ph i)
+not-announced : (t : Bool) (i : ℕ) → All NotTwo (announcement t i)
+unfolding NotTwo announcement
+not-announced true i = (λ z. omega arith, tt)
+not-announced false i = tt
+
+not-ended : (ph : Phase) (i : ℕ) → All NotTwo (ended ph i)
 unfolding NotTwo
-not-opened Begin i = (λ z. omega arith, tt)
-not-opened Started i = (λ z. omega arith, tt)
-not-opened IgnoreRest i = tt
+not-ended Begin i = tt
+not-ended Started i = (λ z. omega arith, tt)
+not-ended IgnoreRest i = tt
 
 not-continued : (ph : Phase) (i : ℕ) (p : List ℕ) → All NotTwo (continued ph i p)
 unfolding continued NotTwo
@@ -151,21 +166,26 @@ begun-begins i p r o k = go (payloadThere p) (headAccepted (drop (contentAt p) p
     go true false = k
     go false b = k
 
-begun-happened : (c : Continuity) (s : Bool) (ph : Phase) (i : ℕ) (p : List ℕ) (r : List Event) → (phaseThen c s ph ≡ Started → Orderly r) → Begun r
+begun-happened : (c : Continuity) (s : Bool) (ph : Phase) (i : ℕ) (p : List ℕ) (r : List Event) → (s ≡ true → calls c true ≡ true → Orderly r) → Begun r
     → Begun (happened c s ph i p ++ r)
 begun-happened GoesOn true ph i p r h k =
-    rw (append-assoc (atStart ph i) (begun i p) r) (past (atStart ph i) _ (not-opened ph i) (begun-begins i p r (h refl) k))
+    rw (append-assoc (ended ph i) (begun i p) r) (past (ended ph i) _ (not-ended ph i) (begun-begins i p r (h refl refl) k))
 begun-happened GoesOn false ph i p r h k = past (continued ph i p) r (not-continued ph i p) k
 begun-happened Repeats s ph i p r h k = k
-begun-happened Breaks true ph i p r h k = (λ z. absurd (omega arith), begun-begins i p r (h refl) k)
+begun-happened Breaks true ph i p r h k = (λ z. absurd (omega arith), begun-begins i p r (h refl refl) k)
 begun-happened Breaks false ph i p r h k = (λ z. absurd (omega arith), k)
 
 begun-run : (i : ℕ) (s : State) (ps : List (List ℕ)) → Begun (run i s ps)
 unfolding run
 begun-run i s [] = tt
 begun-run i s (p ∷ ps) =
-    rw (events-are i s p) (begun-happened (continuity s p) (startFlag p) (s .phase) i p (run (suc i) (next s p) ps)
-    (λ f. orderly-run (suc i) (next s p) ps (phase-then s p ∙ f)) (begun-run (suc i) (next s p) ps))
+    let a = announcement (announces s p) i in
+    let h = happened (continuity s p) (startFlag p) (s .phase) i p in
+    let r = run (suc i) (next s p) ps in
+    rw (events-are i s p, append-assoc a h r)
+    (past a (h ++ r) (not-announced (announces s p) i)
+    (begun-happened (continuity s p) (startFlag p) (s .phase) i p r
+    (λ f g. let n = started-next s p f g in orderly-run (suc i) (next s p) ps (n .0) (n .1)) (begun-run (suc i) (next s p) ps)))
 
 follows-begin : (pre r : List Event) (b : Event) → Kind 2 b → Begun (pre ++ (b ∷ r)) → Orderly r
 follows-begin [] r b k h = h .0 k

@@ -7,11 +7,11 @@
 #![allow(dead_code)]
 
 /// The symbol of the library's layout: its signatures, rows and numbers. An archive of another layout has another one.
-pub const ABI: &str = "cmv_abi_2";
+pub const ABI: &str = "cmv_abi_3";
 
 #[rustfmt::skip]
 extern "C" {
-    #[link_name = "cmv_abi_2"]
+    #[link_name = "cmv_abi_3"]
     pub static cmv_abi: u8;
     pub fn cmv_adaptation_field_discontinuity_indicator(buf: *const u8, buf_len: usize, value: *mut u64) -> u32;
     pub fn cmv_adaptation_field_random_access_indicator(buf: *const u8, buf_len: usize, value: *mut u64) -> u32;
@@ -138,17 +138,17 @@ extern "C" {
         place: *mut u64,
         length: *mut u64,
     ) -> u32;
-    pub fn cmv_machine_fresh(state: *mut [u64; 6]);
-    pub fn cmv_machine_standard(state: *mut [u64; 6]);
+    pub fn cmv_machine_fresh(state: *mut [u64; 7]);
+    pub fn cmv_machine_standard(state: *mut [u64; 7]);
     pub fn cmv_machine_step(
-        state: *mut [u64; 6],
+        state: *mut [u64; 7],
         packet: *const u8,
         packet_len: usize,
         log: *mut u8,
         log_len: usize,
     ) -> u32;
     pub fn cmv_machine_run(
-        state: *mut [u64; 6],
+        state: *mut [u64; 7],
         bytes: *const u8,
         bytes_len: usize,
         log: *mut u8,

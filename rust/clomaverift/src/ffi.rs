@@ -233,7 +233,7 @@ pub mod constants {
 // ---- The event machine and its log.
 
 /// The numbers of a machine's state.
-pub const MACHINE: usize = 6;
+pub const MACHINE: usize = 7;
 
 #[inline]
 pub fn machine_step(state: &mut [u64; MACHINE], packet: &[u8], log: &mut [u8]) -> Result<(), Error> {
