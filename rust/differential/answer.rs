@@ -3,7 +3,7 @@
 use std::fmt;
 
 /// The most values that an answer has.
-pub const MOST: usize = 8;
+pub const MOST: usize = 9;
 
 /// How many numbers there are: 0 to 20.
 pub const NUMBERS: usize = 21;

@@ -1,4 +1,4 @@
-//! Safe calls of the entries of the event machine and of its log. A state is a row of six numbers that the caller keeps and lends.
+//! Safe calls of the entries of the event machine and of its log. A state is a row of seven numbers that the caller keeps and lends.
 
 use crate::declarations::{
     cmv_log_entry_at, cmv_machine_fresh, cmv_machine_run, cmv_machine_standard, cmv_machine_step,
@@ -28,6 +28,8 @@ pub struct State {
     pub last: u64,
     /// Whether the last packet may be repeated: 0 no, 1 once, 2 no more.
     pub again: u64,
+    /// Whether the stream was announced: 0 no, 1 yes.
+    pub announced: u64,
     /// The packets taken so far: the index of the next one.
     pub taken: u64,
     /// The next free byte of the log.
@@ -36,34 +38,35 @@ pub struct State {
 
 impl State {
     /// A state before any packet, in the crate's mode and in the standard mode.
-    pub const FIRST: State = State { mode: CRATE, phase: BEGIN, last: NONE, again: 0, taken: 0, place: 0 };
+    pub const FIRST: State =
+        State { mode: CRATE, phase: BEGIN, last: NONE, again: 0, announced: 0, taken: 0, place: 0 };
     pub const FIRST_STANDARD: State = State { mode: STANDARD, ..State::FIRST };
 
     /// Whether the numbers stand for a state, beside a log of this length.
     pub fn stands(&self, log: usize) -> bool {
         let counter = self.last < 16 || self.last == NONE;
         let sound = self.mode <= STANDARD && self.phase <= IGNORE_REST && counter && self.again <= 2;
-        let sound = sound && self.taken <= MOST_TAKEN;
+        let sound = sound && self.announced <= 1 && self.taken <= MOST_TAKEN;
         sound && self.place <= log && self.place % 8 == 0
     }
 
-    pub fn numbers(&self) -> [u64; 6] {
-        [self.mode, self.phase, self.last, self.again, self.taken, self.place as u64]
+    pub fn numbers(&self) -> [u64; 7] {
+        [self.mode, self.phase, self.last, self.again, self.announced, self.taken, self.place as u64]
     }
 
-    fn row(&mut self) -> *mut [u64; 6] {
+    fn row(&mut self) -> *mut [u64; 7] {
         (self as *mut State).cast()
     }
 }
 
 /// Has the library fill a row with the state before any packet.
-pub fn fresh(row: &mut [u64; 6]) {
+pub fn fresh(row: &mut [u64; 7]) {
     // The row is live: all that the entry asks.
     unsafe { cmv_machine_fresh(row) }
 }
 
 /// The same in the standard mode.
-pub fn standard(row: &mut [u64; 6]) {
+pub fn standard(row: &mut [u64; 7]) {
     // As for `fresh`.
     unsafe { cmv_machine_standard(row) }
 }

@@ -3,7 +3,7 @@
 
 use crate::answer::Answer;
 use crate::consumer::{phase_before, start, Oracle, SIZE};
-use crate::event::{decoded, Event, ENTRY};
+use crate::event::{self, decoded, Event, ENTRY};
 use crate::host_machine::{self, log_entry_at, State};
 use crate::host_machine::{BEGIN, CRATE, IGNORE_REST, MOST_TAKEN, NONE, STANDARD, STARTED};
 use crate::kept::Keeps;
@@ -37,11 +37,11 @@ fn compare(plan: &Plan) -> Vec<Tally> {
 }
 
 /// The state before any packet, in place of every row that is tried, and of random ones.
-pub fn compare_first(name: &str, first: State, entry: fn(&mut [u64; 6]), rng: &mut Rng) -> Tally {
+pub fn compare_first(name: &str, first: State, entry: fn(&mut [u64; 7]), rng: &mut Rng) -> Tally {
     let mut tally = Tally::new(name, &[0]);
     let mut fill = |before| tally.call_filling(&first.numbers(), entry, before);
     every_row(&MODES).chain(every_row(&[STANDARD])).for_each(|state| fill(state.numbers()));
-    (0..10_000).for_each(|_| fill([(); 6].map(|()| rng.next())));
+    (0..10_000).for_each(|_| fill([(); 7].map(|()| rng.next())));
     tally
 }
 
@@ -134,9 +134,9 @@ impl Call<'_> {
 }
 
 /// The numbers of a state, and the out numbers of a run.
-fn with(state: State, [packets, ended]: [u64; 2]) -> [u64; 8] {
-    let [mode, phase, last, again, taken, place] = state.numbers();
-    [mode, phase, last, again, taken, place, packets, ended]
+fn with(state: State, [packets, ended]: [u64; 2]) -> [u64; 9] {
+    let [mode, phase, last, again, announced, taken, place] = state.numbers();
+    [mode, phase, last, again, announced, taken, place, packets, ended]
 }
 
 /// Done with these values, or refused.
@@ -152,8 +152,8 @@ fn text(packets: &[u8]) -> String {
     format!("{} bytes [{}]", packets.len(), hex(&packets[..packets.len().min(SIZE)]))
 }
 
-/// Whether a stream can bring the oracle to the state, or its numbers stand for none. The oracle keeps no number that says whether a
-/// packet may be repeated: in the crate's mode nothing depends on it.
+/// Whether a stream can bring the oracle to the state, or its numbers stand for none. The oracle keeps no numbers that say whether a
+/// packet may be repeated and whether the stream was announced: in the crate's mode nothing depends on them.
 fn can_be_reached(state: State) -> bool {
     state.last != NONE || !matches!(state.phase, STARTED | IGNORE_REST)
 }
@@ -182,6 +182,9 @@ pub struct Cases {
 /// The longest packet and the longest log of a single packet's answers.
 pub const LONGEST_PACKET: usize = SIZE + 1;
 pub const LONGEST_LOG: usize = 40;
+
+/// The most bytes that the entries of one packet take.
+pub const MOST_ENTRIES: usize = 3 * ENTRY;
 
 impl Cases {
     pub fn new(rng: Rng) -> Cases {
@@ -287,7 +290,7 @@ impl Cases {
     /// Every state with every control byte, with and without the start flag and a head, and lengths of the adaptation field around
     /// each bound; each with one more packet after it.
     fn every_state(&mut self) {
-        for state in every_state(CRATE).filter(|state| state.again == 0) {
+        for state in every_state(CRATE).filter(|state| state.again == 0 && state.announced == 0) {
             for control in 0..=255 {
                 for length in LENGTHS {
                     for (flags, head) in [(0x00, HEAD), (0x00, NO_HEAD), (0x40, HEAD), (0x40, NO_HEAD)] {
@@ -298,14 +301,16 @@ impl Cases {
         }
     }
 
-    /// A state with each number that says whether a packet may be repeated: it makes no difference.
+    /// A state with each number that says whether a packet may be repeated, and whether the stream was announced: neither makes a
+    /// difference to the events.
     fn state(&mut self, state: State, [flags, control, length]: [u8; 3], head: [u8; 6]) {
         let random = self.rng.next();
         let packet = packet([flags | random as u8 & 0xbf, (random >> 8) as u8, control, length], head);
         let place = ENTRY * (random >> 16 & 1) as usize;
         let state = State { taken: random >> 33, place, ..state };
         let judged = self.judged(state, &packet, LONGEST_LOG);
-        let [after, ..] = [0, 1, 2].map(|again| self.hold(State { again, ..state }, &packet, LONGEST_LOG, &judged));
+        let [after, ..] = [(0, 0), (0, 1), (1, 0), (1, 1), (2, 0), (2, 1)]
+            .map(|(again, announced)| self.hold(State { again, announced, ..state }, &packet, LONGEST_LOG, &judged));
         self.take(after, &start(after.last as u8 + 1), LONGEST_LOG);
     }
 
@@ -321,31 +326,38 @@ impl Cases {
         }
     }
 
-    /// Every number for a phase with every number for a counter, and every one that says whether a packet may be repeated; and of each
-    /// ground for a refusal several, with the others and without: the numbers have an order.
+    /// Every number for a phase with every number for a counter, every one that says whether a packet may be repeated, and every one
+    /// that says whether the stream was announced; and of each ground for a refusal several, with the others and without: the numbers
+    /// have an order.
     pub fn every_refusal(&mut self, mode: u64) {
-        const STATES: [(u64, u64, u64); 9] = [
-            (BEGIN, NONE, 0),
-            (STARTED, 15, 0),
-            (STARTED, 15, 1),
-            (STARTED, 15, 2),
-            (STARTED, 15, 3),
-            (STARTED, NONE, 1),
-            (IGNORE_REST, 16, 2),
-            (3, 0, 1),
-            (255, 255, 255),
+        const STATES: [(u64, u64, u64, u64); 12] = [
+            (BEGIN, NONE, 0, 0),
+            (STARTED, 15, 0, 0),
+            (STARTED, 15, 0, 1),
+            (STARTED, 15, 0, 2),
+            (STARTED, 15, 1, 0),
+            (STARTED, 15, 2, 0),
+            (STARTED, 15, 2, 1),
+            (STARTED, 15, 3, 0),
+            (STARTED, NONE, 1, 0),
+            (IGNORE_REST, 16, 2, 1),
+            (3, 0, 1, 0),
+            (255, 255, 255, 255),
         ];
         let (state, packets) = (State { mode, ..State::FIRST }, by_events());
         for (phase, last) in (0..=255).flat_map(|phase| (0..=255).map(move |last| (phase, last))) {
-            self.take(State { phase, last, again: (phase + last) % 3, ..state }, &packets[1], 2 * ENTRY);
+            let (again, announced) = ((phase + last) % 3, last % 2);
+            self.take(State { phase, last, again, announced, ..state }, &packets[1], MOST_ENTRIES);
         }
-        for (again, packet) in (0..=255).flat_map(|again| packets.map(|packet| (again, packet))) {
-            self.take(State { phase: STARTED, last: 15, again, ..state }, &packet, 2 * ENTRY);
+        for (number, packet) in (0..=255).flat_map(|number| packets.map(|packet| (number, packet))) {
+            let state = State { phase: STARTED, last: 15, ..state };
+            self.take(State { again: number, ..state }, &packet, MOST_ENTRIES);
+            self.take(State { announced: number, ..state }, &packet, MOST_ENTRIES);
         }
         for taken in [0, MOST_TAKEN - 1, MOST_TAKEN] {
-            for (phase, last, again) in STATES {
+            for (phase, last, again, announced) in STATES {
                 for packet in packets.iter().flat_map(every_packet_fault) {
-                    self.every_log(State { phase, last, again, taken, ..state }, packet.as_slice());
+                    self.every_log(State { phase, last, again, announced, taken, ..state }, packet.as_slice());
                 }
             }
         }
@@ -356,15 +368,16 @@ impl Cases {
         let [_, packet, ..] = by_events();
         let modes = (0..=255).filter(|mode| *mode != STANDARD);
         for (mode, again) in modes.flat_map(|mode| (0..=255).map(move |again| (mode, again))) {
-            self.take(State { mode, again, ..State::FIRST }, &packet, 2 * ENTRY);
+            self.take(State { mode, again, ..State::FIRST }, &packet, MOST_ENTRIES);
         }
     }
 
     /// Every length of the log, with places in it, past it and between entries.
     fn every_log(&mut self, state: State, packet: &[u8]) {
         for room in 0..=LONGEST_LOG {
-            let near = [room.wrapping_sub(16), room.wrapping_sub(8), room.wrapping_sub(1), room, room + 1, room + 8];
-            for place in near.into_iter().chain([0, 1, 4, 7, 8, 16, 1 << 63, usize::MAX - 7, usize::MAX]) {
+            let before = [24, 16, 8, 1].map(|bytes| room.wrapping_sub(bytes)).into_iter();
+            let near = before.chain([room, room + 1, room + 8]);
+            for place in near.chain([0, 1, 4, 7, 8, 16, 1 << 63, usize::MAX - 7, usize::MAX]) {
                 self.take(State { place, ..state }, packet, room);
             }
         }
@@ -398,25 +411,27 @@ pub fn oracle_in(state: State) -> Option<Oracle> {
 
 /// What a packet does in a state, by the rules of its mode.
 pub fn by_rules(state: State, packet: &[u8]) -> Happened {
-    let State { mode, phase, last, again, .. } = state;
-    match mode {
-        STANDARD => standard_rules::happened(phase, last, again, packet),
-        _ => rules::happened(phase, last, packet),
+    match state.mode {
+        STANDARD => standard_rules::happened(state, packet),
+        _ => rules::happened(state, packet),
     }
 }
 
-/// The state after a packet that does this. The mode is the caller's to change.
+/// The state after a packet that does this. In both modes the stream is announced by StartStream and by nothing else. The mode is the
+/// caller's to change.
 pub fn next(state: State, happened: &Happened) -> State {
     let Happened { events, phase, last, again } = *happened;
-    State { phase, last, again, taken: state.taken + 1, place: state.place + events.room(), ..state }
+    let announced = if events.has(event::START) { 1 } else { state.announced };
+    State { phase, last, again, announced, taken: state.taken + 1, place: state.place + events.room(), ..state }
 }
 
-/// Every phase with every counter or none, and with every number that says whether a packet may be repeated: also those that no
-/// stream leads to.
+/// Every phase with every counter or none, with every number that says whether a packet may be repeated, and announced or not: also
+/// those that no stream leads to.
 pub fn every_state(mode: u64) -> impl Iterator<Item = State> {
     let states = [BEGIN, STARTED, IGNORE_REST].into_iter().map(move |phase| State { mode, phase, ..State::FIRST });
     let states = states.flat_map(|state| (0..16).chain([NONE]).map(move |last| State { last, ..state }));
-    states.flat_map(|state| (0..=2).map(move |again| State { again, ..state }))
+    let states = states.flat_map(|state| (0..=2).map(move |again| State { again, ..state }));
+    states.flat_map(|state| (0..=1).map(move |announced| State { announced, ..state }))
 }
 
 /// What a run over a packet or none is to tell, where a step over it gives this number; or the number of the refusal.
@@ -436,15 +451,35 @@ fn ran(state: State, packets: &[u8], room: usize, number: u32) -> Result<Ran, u3
 
 /// Numbers of each position of a row. The number of the standard mode, which is not among those of modes, has its own comparison.
 const MODES: [u64; 5] = [CRATE, 2, 256, 1 + (1 << 32), u64::MAX];
-const AGAIN: [u64; 6] = [0, 1, 2, 3, 1 + (1 << 32), u64::MAX];
 const PHASES: [u64; 10] = [0, 1, 2, 3, 255, 256, 1 << 32, 1 + (1 << 32), 1 << 63, u64::MAX];
 const COUNTERS: [u64; 11] = [0, 15, 16, 254, 255, 256, 1 << 32, 15 + (1 << 32), 255 + (1 << 32), 1 << 63, u64::MAX];
 const TAKEN: [u64; 7] = [0, MOST_TAKEN - 1, MOST_TAKEN, MOST_TAKEN + 1, 1 + (1 << 32), 1 << 63, u64::MAX];
 const PLACES: [usize; 8] = [0, ENTRY, ENTRY - 1, LONGEST_LOG + ENTRY, 1 << 32, 1 << 63, usize::MAX - 7, usize::MAX];
 
+/// Those that say whether a packet may be repeated and whether the stream was announced, in pairs: where one stands for nothing, the
+/// other stands for something.
+const AGAIN_AND_ANNOUNCED: [(u64, u64); 14] = [
+    (0, 0),
+    (0, 1),
+    (1, 0),
+    (1, 1),
+    (2, 0),
+    (2, 1),
+    (3, 0),
+    (1 + (1 << 32), 1),
+    (u64::MAX, 0),
+    (0, 2),
+    (1, 3),
+    (2, 256),
+    (0, 1 + (1 << 32)),
+    (1, u64::MAX),
+];
+
 /// Each of those with each other, and with these modes.
 fn every_row(modes: &[u64]) -> impl Iterator<Item = State> + '_ {
-    let states = modes.iter().flat_map(|&mode| AGAIN.map(|again| State { mode, again, ..State::FIRST }));
+    let states = modes.iter().flat_map(|&mode| {
+        AGAIN_AND_ANNOUNCED.map(|(again, announced)| State { mode, again, announced, ..State::FIRST })
+    });
     let states = states.flat_map(|state| PHASES.map(|phase| State { phase, ..state }));
     let states = states.flat_map(|state| COUNTERS.map(|last| State { last, ..state }));
     let states = states.flat_map(|state| TAKEN.map(|taken| State { taken, ..state }));
@@ -485,7 +520,8 @@ pub fn payload_at(packet: &[u8]) -> usize {
 }
 
 /// Packets with no event, with one and with two, and one that goes on with a unit, in a state with no last counter or with 15. After
-/// 15 the last two are breaks, of one event and of two, or repeats.
+/// 15 the last two are breaks, of one event and of two, or repeats. In the standard mode all but the first and the fourth may have one
+/// event more.
 fn by_events() -> [[u8; SIZE]; 6] {
     [
         packet([0x00, 0x00, 0x0f, 0xff], NO_HEAD),

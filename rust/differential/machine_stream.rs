@@ -6,7 +6,7 @@ use crate::event::{self, ENTRY};
 use crate::files::Files;
 use crate::host_machine::{log_entry_at, State, IGNORE_REST, MOST_TAKEN, STARTED};
 use crate::lent::Lent;
-use crate::machine::{by_rules, entry_answer, next, oracle_in, set_head, Call, Ran, Runs};
+use crate::machine::{by_rules, entry_answer, next, oracle_in, set_head, Call, Ran, Runs, MOST_ENTRIES};
 use crate::rng::Rng;
 use crate::rules::Happened;
 use crate::standard_stream::Standard;
@@ -35,8 +35,9 @@ pub fn compare_random(count: u64, rng: &mut Rng) -> Vec<Tally> {
         let stream = &mut packets[..SIZE * (1 + rng.below(MOST)).min(left)];
         left -= stream.len() / SIZE;
         make_stream(stream, rng);
-        let (again, taken) = (rng.below(3) as u64, random_taken(stream.len() / SIZE, rng));
-        walk.stream(stream, State { again, taken, ..State::FIRST }, rng);
+        let (again, announced) = (rng.below(3) as u64, rng.below(2) as u64);
+        let taken = random_taken(stream.len() / SIZE, rng);
+        walk.stream(stream, State { again, announced, taken, ..State::FIRST }, rng);
     }
     walk.say_taken("machine");
     walk.into_tallies()
@@ -83,7 +84,7 @@ impl Told {
     /// By what each packet does in the state before it. Of as many packets as there are indices left.
     pub fn by(first: State, packets: &[u8], mut happened: impl FnMut(State, &[u8]) -> Happened) -> Told {
         let count = packets.len() / SIZE;
-        let mut told = Told { first, after: Vec::with_capacity(count), log: Vec::with_capacity(2 * ENTRY * count) };
+        let mut told = Told { first, after: Vec::with_capacity(count), log: Vec::with_capacity(longest_log(count)) };
         let mut state = first;
         for packet in packets.chunks_exact(SIZE).take((MOST_TAKEN - first.taken) as usize) {
             let happened = happened(state, packet);
@@ -110,13 +111,18 @@ impl Told {
     }
 }
 
+/// The most bytes that the entries of so many packets take. A packet has two at most, and once in a stream three.
+pub fn longest_log(count: usize) -> usize {
+    (2 * count + 1) * ENTRY
+}
+
 /// What the oracle does with the next packet. It keeps its phase to itself. It is what a break and the start flag make it; single steps
 /// look for it.
 fn heard(oracle: &mut Oracle, state: State, packet: &[u8]) -> Happened {
     let (events, packet) = (oracle.consume(packet), Packet::new(packet));
     let phase = if packet.payload_unit_start_indicator() {
         STARTED
-    } else if events.iter().any(|event| event.kind == event::ERROR) {
+    } else if events.has(event::ERROR) {
         IGNORE_REST
     } else {
         state.phase
@@ -155,7 +161,7 @@ impl Walk {
     /// The name of what is gone over; room for streams of so many packets; the numbers that have to be among the answers, and after
     /// those of runs the numbers that have to be among their ends.
     pub fn new(name: &str, most: usize, [step, run, ended, entry_at]: [&'static [usize]; 4]) -> Walk {
-        let log = 2 * ENTRY * most + STEP_LOG;
+        let log = longest_log(most) + STEP_LOG;
         let mut filling = vec![0; log];
         Rng::new(most as u64).fill(&mut filling);
         Walk {
@@ -200,7 +206,7 @@ impl Walk {
     }
 
     fn steps(&mut self, told: &Told, rng: &mut Rng) {
-        let room = 2 * ENTRY + rng.below(STEP_LOG - 2 * ENTRY);
+        let room = MOST_ENTRIES + rng.below(STEP_LOG - MOST_ENTRIES);
         self.step_log.set(&self.filling[..room], rng.next() as u8);
         let mut place = 0;
         for nth in 0..self.count() {
@@ -326,7 +332,7 @@ impl Piece {
 /// A state that is none, by one of its numbers. Of some the lower bits are those of the state.
 fn no_state(state: State, rng: &mut Rng) -> State {
     let far = 1 << [8, 16, 32, 63][rng.below(4)];
-    match rng.below(11) {
+    match rng.below(13) {
         0 => State { mode: 2 + rng.below(254) as u64, ..state },
         1 => State { mode: state.mode + far, ..state },
         2 => State { phase: 3 + rng.below(253) as u64, ..state },
@@ -335,8 +341,10 @@ fn no_state(state: State, rng: &mut Rng) -> State {
         5 => State { last: state.last + far, ..state },
         6 => State { again: 3 + rng.below(253) as u64, ..state },
         7 => State { again: state.again + far, ..state },
-        8 => State { taken: state.taken + (1 << 32), ..state },
-        9 => State { place: state.place + 1 + rng.below(7), ..state },
+        8 => State { announced: 2 + rng.below(254) as u64, ..state },
+        9 => State { announced: state.announced + far, ..state },
+        10 => State { taken: state.taken + (1 << 32), ..state },
+        11 => State { place: state.place + 1 + rng.below(7), ..state },
         _ => State { place: usize::MAX - 7, ..state },
     }
 }

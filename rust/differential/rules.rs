@@ -1,11 +1,12 @@
 //! The machine's rules as the request has them, written anew: for the two states that no stream brings the oracle to, which are a
 //! phase other than Begin with no last counter. They are held against the oracle in all other states. Those of events are the
-//! standard mode's too (standard_rules.rs).
+//! standard mode's too (standard_rules.rs), but for StartStream, which each mode gives by a rule of its own.
 
 use crate::event::{self, Event, Events};
-use crate::host_machine::{BEGIN, IGNORE_REST, NONE, STARTED};
+use crate::host_machine::{State, BEGIN, IGNORE_REST, NONE, STARTED};
 
-/// What a packet does: its events; the phase and the counter after it, and whether it may be repeated.
+/// What a packet does: its events; the phase and the counter after it, and whether it may be repeated. Whether the stream is announced
+/// after it, the events tell.
 #[derive(Debug, PartialEq)]
 pub struct Happened {
     pub events: Events,
@@ -14,20 +15,23 @@ pub struct Happened {
     pub again: u64,
 }
 
-/// In the crate's mode.
-pub fn happened(phase: u64, last: u64, packet: &[u8]) -> Happened {
+/// In the crate's mode. StartStream comes by the phase, whether the stream was announced or not.
+pub fn happened(State { phase, last, .. }: State, packet: &[u8]) -> Happened {
     let due = (last + u64::from(has_payload_flag(packet))) % 16;
-    accepted(phase, last == NONE || counter(packet) == due, packet)
+    let continuous = last == NONE || counter(packet) == due;
+    accepted(phase, continuous, continuous && phase == BEGIN && has_start_flag(packet), packet)
 }
 
-/// In both modes, where the packet is not dropped: its counter is continuous, or there is a break.
-pub fn accepted(phase: u64, continuous: bool, packet: &[u8]) -> Happened {
-    let start = packet[1] & 0x40 != 0;
+/// In both modes, where the packet is not dropped: its counter is continuous, or there is a break; and it announces the stream, or not.
+pub fn accepted(phase: u64, continuous: bool, announces: bool, packet: &[u8]) -> Happened {
+    let start = has_start_flag(packet);
     let phase = if continuous { phase } else { IGNORE_REST };
     let mut events = Events::default();
+    if announces {
+        events.push(Event::bare(event::START));
+    }
     match (start, phase) {
         _ if !continuous => events.push(Event::bare(event::ERROR)),
-        (true, BEGIN) => events.push(Event::bare(event::START)),
         (true, STARTED) => events.push(Event::bare(event::END)),
         _ => (),
     }
@@ -41,6 +45,10 @@ pub fn accepted(phase: u64, continuous: bool, packet: &[u8]) -> Happened {
     }
     let phase = if start { STARTED } else { phase };
     Happened { events, phase, last: counter(packet), again: has_payload_flag(packet).into() }
+}
+
+pub fn has_start_flag(packet: &[u8]) -> bool {
+    packet[1] & 0x40 != 0
 }
 
 pub fn counter(packet: &[u8]) -> u64 {

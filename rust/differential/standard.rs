@@ -4,14 +4,14 @@
 use crate::answer::Answer;
 use crate::consumer::{start, SIZE};
 use crate::event::{self, decoded, ENTRY};
-use crate::host_machine::{self, State, STANDARD};
+use crate::host_machine::{self, State, BEGIN, IGNORE_REST, NONE, STANDARD, STARTED};
 use crate::machine::{compare_first, every_state, packet, Cases, HEAD, LONGEST_LOG, NO_HEAD};
 use crate::machine_stream::{Told, Walk};
 use crate::module::{Module, Plan};
 use crate::rng::Rng;
 use crate::rules::{counter, has_payload_flag};
 use crate::standard_rules::{does, has_discontinuity_bit, verdict, verdicts, Verdict};
-use crate::standard_stream;
+use crate::standard_stream::{self, starts_as_alone};
 use crate::tally::{hex, Tally};
 use mpeg2ts_reader::packet::Packet;
 
@@ -74,74 +74,142 @@ fn compare_bit() -> Tally {
 
 // ---- Corners.
 
-/// Packets one after another, each with its counter, and what each is to be taken for; then its events where the first of them comes
-/// within a unit: c for ContinuePacket, e for ContinuityError, n for EndPacket, b for BeginPacket, and - for none.
+/// Packets one after another, each with its counter, and what each is to be taken for; then its events from the state before any packet,
+/// and where the first of them comes within a unit: s for StartStream, c for ContinuePacket, e for ContinuityError, n for EndPacket, b for
+/// BeginPacket, and - for none.
 ///
-/// The packets are P, with a payload; S, the same with the start flag and a head; A, with an adaptation field alone; D and B, P and A with
-/// the discontinuity bit. In N, Z and X the bit stands where it would be in an adaptation field, but there is none: N has the payload flag
-/// and a length of 183, which leaves no payload, Z the payload flag and a length of 0, X no payload flag and a length of 182. O has neither
-/// payload nor adaptation field.
-const CORNERS: [[&str; 3]; 23] = [
-    ["P5 P5 P5 P5 P5", "on drop break drop break", "c - e - e"],
-    ["P5 A5 P5", "on on break", "c - e"],
-    ["A5 P5", "on break", "- e"],
-    ["P5 P5 P6 P6", "on drop on drop", "c - c -"],
-    ["P5 D9 P9 P10", "on on drop on", "c c - c"],
-    ["P5 D5", "on on", "c c"],
-    ["P5 P5 A5 P5", "on drop on break", "c - - e"],
-    ["P5 S5", "on drop", "c -"],
-    ["D9 D9 P9", "on on drop", "c c -"],
-    ["P5 N5 N9", "on drop break", "c - e"],
-    ["P5 B9 P9", "on on break", "c - e"],
-    ["P5 B9 P10", "on on on", "c - c"],
-    ["P15 P0 P0 P1", "on on drop on", "c c - c"],
-    ["P5 P5 P5 P6", "on drop break on", "c - e -"],
-    ["P5 S5 S5 P6", "on drop break on", "c - eb c"],
-    ["S5 S5 S6 S6", "on drop on drop", "nb - nb -"],
-    ["P5 P5 D5 P5", "on drop on drop", "c - c -"],
-    ["P5 D9 D9 D9", "on on on on", "c c c c"],
-    ["P5 Z5 Z9", "on drop break", "c - e"],
-    ["P5 X9 P9", "on break break", "c e e"],
-    ["P5 A6 A6 P6", "on break on break", "c e - e"],
-    ["P5 O5 P6 O6 P6", "on on on on break", "c - c - e"],
-    ["P5 P6 P5 P6", "on on break on", "c c e -"],
+/// The packets are P, with a payload; S, the same with the start flag and a head; A, with an adaptation field alone; T, the same with the
+/// start flag; D and B, P and A with the discontinuity bit; E, D with the start flag and a head. In N, Z and X the bit stands where it
+/// would be in an adaptation field, but there is none: N has the payload flag and a length of 183, which leaves no payload, Z the payload
+/// flag and a length of 0, X no payload flag and a length of 182. O has neither payload nor adaptation field.
+const CORNERS: [[&str; 4]; 35] = [
+    ["P5 P5 P5 P5 P5", "on drop break drop break", "- - se - e", "c - e - e"],
+    ["P5 A5 P5", "on on break", "- - se", "c - e"],
+    ["A5 P5", "on break", "- se", "- e"],
+    ["P5 P5 P6 P6", "on drop on drop", "- - - -", "c - c -"],
+    ["P5 D9 P9 P10", "on on drop on", "- - - -", "c c - c"],
+    ["P5 D5", "on on", "- -", "c c"],
+    ["P5 P5 A5 P5", "on drop on break", "- - - se", "c - - e"],
+    ["P5 S5", "on drop", "- -", "c -"],
+    ["D9 D9 P9", "on on drop", "- - -", "c c -"],
+    ["P5 N5 N9", "on drop break", "- - se", "c - e"],
+    ["P5 B9 P9", "on on break", "- - se", "c - e"],
+    ["P5 B9 P10", "on on on", "- - -", "c - c"],
+    ["P15 P0 P0 P1", "on on drop on", "- - - -", "c c - c"],
+    ["P5 P5 P5 P6", "on drop break on", "- - se -", "c - e -"],
+    ["P5 S5 S5 P6", "on drop break on", "- - seb c", "c - eb c"],
+    ["S5 S5 S6 S6", "on drop on drop", "sb - nb -", "nb - nb -"],
+    ["P5 P5 D5 P5", "on drop on drop", "- - - -", "c - c -"],
+    ["P5 D9 D9 D9", "on on on on", "- - - -", "c c c c"],
+    ["P5 Z5 Z9", "on drop break", "- - se", "c - e"],
+    ["P5 X9 P9", "on break break", "- se e", "c e e"],
+    ["P5 A6 A6 P6", "on break on break", "- se - e", "c e - e"],
+    ["P5 O5 P6 O6 P6", "on on on on break", "- - - - se", "c - c - e"],
+    ["P5 P6 P5 P6", "on on break on", "- - se -", "c c e -"],
+    // An early break announces the stream, and a later one does not again, nor does a start.
+    ["P5 P9", "on break", "- se", "c e"],
+    ["P5 S9", "on break", "- seb", "c eb"],
+    ["P5 P9 P13 S14 S15", "on break break on on", "- se e b nb", "c e e b nb"],
+    ["P5 P9 S13 P14", "on break break on", "- se eb c", "c e eb c"],
+    ["P5 S6 S9 P10", "on on break on", "- sb eb c", "c nb eb c"],
+    ["P5 S6 P9 S10", "on on break on", "- sb e b", "c nb e b"],
+    // A dropped packet announces nothing, though it has the start flag.
+    ["P5 S5 S5", "on drop break", "- - seb", "c - eb"],
+    ["P5 S5 P6 S7 S7", "on drop on on drop", "- - - sb -", "c - c nb -"],
+    ["P5 S5 P9", "on drop break", "- - se", "c - e"],
+    // A start announces it with no payload and with the discontinuity bit too.
+    ["T5 P6 T6 T9", "on on on break", "s c n e", "n c n e"],
+    ["P5 T9 S10", "on break on", "- se nb", "c e nb"],
+    ["P5 E9 E9", "on on on", "- sb nb", "c nb nb"],
 ];
 
-/// Each row from the state before any packet, and after the start of a unit: by steps, by runs in pieces, by one run; and against the
-/// rules.
+/// The same from other states: the phase, the last counter, whether the packet before may be repeated, and whether the stream was
+/// announced. In the standard mode the phase alone does not tell that.
+const FROM_STATES: [([u64; 4], [&str; 3]); 20] = [
+    ([STARTED, 5, 0, 0], ["S6 S7 P8", "on on on", "snb nb c"]),
+    ([STARTED, NONE, 0, 0], ["S6", "on", "snb"]),
+    ([STARTED, 5, 0, 0], ["P6 P7 S8", "on on on", "c c snb"]),
+    ([STARTED, NONE, 0, 0], ["P6", "on", "c"]),
+    ([STARTED, 5, 0, 0], ["P9 S10", "break on", "se b"]),
+    ([STARTED, 5, 0, 0], ["S9 S10", "break on", "seb nb"]),
+    ([STARTED, 5, 0, 0], ["T5 T5", "on on", "sn n"]),
+    ([STARTED, 5, 0, 1], ["S6", "on", "nb"]),
+    ([STARTED, 5, 0, 1], ["S9", "break", "eb"]),
+    ([STARTED, 5, 1, 0], ["S5 S5 S6", "drop break on", "- seb nb"]),
+    ([STARTED, 5, 2, 0], ["S5", "break", "seb"]),
+    ([BEGIN, 5, 0, 1], ["S6 S7", "on on", "b nb"]),
+    ([BEGIN, NONE, 0, 1], ["S6", "on", "b"]),
+    ([BEGIN, 5, 0, 1], ["P9 S10", "break on", "e b"]),
+    ([BEGIN, 5, 0, 0], ["P6 S7", "on on", "- sb"]),
+    ([IGNORE_REST, 5, 0, 0], ["P6 S7", "on on", "- sb"]),
+    ([IGNORE_REST, 5, 0, 0], ["S6 S7", "on on", "sb nb"]),
+    ([IGNORE_REST, NONE, 0, 0], ["P6 P9", "on break", "- se"]),
+    ([IGNORE_REST, 5, 1, 0], ["S5 S6", "drop on", "- sb"]),
+    ([IGNORE_REST, 5, 0, 1], ["S6", "on", "b"]),
+];
+
+/// A row of the tables, with the state that its first packet comes in.
+struct Corner {
+    first: State,
+    packets: Vec<u8>,
+    verdicts: Vec<Verdict>,
+    events: String,
+}
+
+impl Corner {
+    fn new(first: State, [packets, verdicts, events]: [&str; 3]) -> Corner {
+        let packets = packets.split(' ').flat_map(made).collect();
+        let verdicts = verdicts.split(' ').map(taken_for).collect();
+        Corner { first, packets, verdicts, events: events.to_string() }
+    }
+
+    /// After the start of a unit, which announces the stream.
+    fn in_a_unit([packets, verdicts, events]: [&str; 3]) -> Corner {
+        let first = made(packets.split(' ').next().expect("a packet"));
+        let before = (counter(&first) + 16 - u64::from(has_payload_flag(&first))) % 16;
+        let (packets, verdicts) = (format!("S{before} {packets}"), format!("on {verdicts}"));
+        Corner::new(State::FIRST_STANDARD, [&packets, &verdicts, &format!("sb {events}")])
+    }
+
+    /// Whether the rules, by the state and, where it has no counter, by the packets alone, take the packets for what is due, and
+    /// announce the stream where they are told to.
+    fn follows(&self, told: &Told) -> bool {
+        let due = || self.verdicts.iter().copied();
+        let by_state = self.packets.chunks_exact(SIZE).enumerate().map(|(nth, packet)| {
+            let before = told.before(nth);
+            verdict(before.last, before.again, packet)
+        });
+        let alone = || verdicts(&self.packets).eq(due()) && starts_as_alone(&self.packets, told);
+        by_state.eq(due()) && (self.first.last != NONE || alone())
+    }
+}
+
+fn corners() -> impl Iterator<Item = Corner> {
+    let rows = CORNERS.into_iter().flat_map(|[packets, verdicts, fresh, in_a_unit]| {
+        let from_fresh = Corner::new(State::FIRST_STANDARD, [packets, verdicts, fresh]);
+        [from_fresh, Corner::in_a_unit([packets, verdicts, in_a_unit])]
+    });
+    rows.chain(FROM_STATES.map(|([phase, last, again, announced], row)| {
+        Corner::new(State { phase, last, again, announced, ..State::FIRST_STANDARD }, row)
+    }))
+}
+
+/// Each corner by steps, by runs in pieces, by one run; and against the rules.
 fn compare_corners(rng: &mut Rng) -> Vec<Tally> {
     let mut walk = Walk::new("standard mode, corners", 8, [&[0], &[0], &[0], &[0]]);
     let mut rules = Tally::of_oracle("standard mode, corners, the rules", &[0]);
-    for [packets, verdicts, events] in CORNERS {
-        let row: Vec<_> = packets.split(' ').map(made).collect();
-        let verdicts: Vec<_> = verdicts.split(' ').map(taken_for).collect();
-        let before = counter(&row[0]) + 16 - u64::from(has_payload_flag(&row[0]));
-        let in_a_unit = [&[start(before as u8 % 16)], &row[..]].concat();
-        let of_unit = ["sb", events].join(" ");
-        for (packets, verdicts, events) in [
-            (row.as_flattened(), verdicts.clone(), None),
-            (in_a_unit.as_flattened(), [&[Verdict::On], &verdicts[..]].concat(), Some(of_unit)),
-        ] {
-            let mut due = verdicts.iter();
-            let told = Told::by(State::FIRST_STANDARD, packets, |State { phase, last, .. }, packet| {
-                does(*due.next().expect("one for each packet"), phase, last, packet)
-            });
-            let as_due = events.map_or(true, |events| letters(&told) == events) && follow(packets, &told, &verdicts);
-            rules.take_check(&Answer::done(&[]), as_due, || hex(packets), || letters(&told));
-            walk.told(packets, &told, rng);
-            walk.one_run(packets, &told, rng);
-        }
+    for corner in corners() {
+        let mut due = corner.verdicts.iter();
+        let told = Told::by(corner.first, &corner.packets, |state, packet| {
+            does(*due.next().expect("one for each packet"), state, packet)
+        });
+        let as_due = letters(&told) == corner.events && corner.follows(&told);
+        let input = || format!("{:?}, {}", corner.first, hex(&corner.packets));
+        rules.take_check(&Answer::done(&[]), as_due, input, || letters(&told));
+        walk.told(&corner.packets, &told, rng);
+        walk.one_run(&corner.packets, &told, rng);
     }
     walk.into_tallies().into_iter().chain([rules]).collect()
-}
-
-/// Whether the rules, by the state and by the packets alone, take the packets for this.
-fn follow(packets: &[u8], told: &Told, due: &[Verdict]) -> bool {
-    let by_state = packets.chunks_exact(SIZE).enumerate().map(|(nth, packet)| {
-        let before = told.before(nth);
-        verdict(before.last, before.again, packet)
-    });
-    by_state.eq(due.iter().copied()) && verdicts(packets).eq(due.iter().copied())
 }
 
 /// The events of each packet, as the table has them.
@@ -178,15 +246,16 @@ fn made(word: &str) -> [u8; SIZE] {
     let (control, length, flags) = match kind {
         "S" => return start(counter),
         "P" => (0x10, 0xff, 0xff),
-        "A" => (0x20, 183, 0x00),
+        "A" | "T" => (0x20, 183, 0x00),
         "B" => (0x20, 183, 0x80),
-        "D" => (0x30, 1, 0x80),
+        "D" | "E" => (0x30, 1, 0x80),
         "N" => (0x30, 183, 0x80),
         "Z" => (0x30, 0, 0x80),
         "X" => (0x20, 182, 0x80),
         _ => (0x00, 0xff, 0xff),
     };
-    let mut packet = packet([0x00, 0x00, control | counter, length], NO_HEAD);
+    let (start, head) = if matches!(kind, "T" | "E") { (0x40, HEAD) } else { (0x00, NO_HEAD) };
+    let mut packet = packet([start, 0x00, control | counter, length], head);
     packet[5] = flags;
     packet
 }

@@ -1,10 +1,11 @@
-//! The standard mode of the event machine, which the oracle does not have, as the request says it. What a packet is taken for is said
-//! twice: by the state that the machine keeps, and by the packets alone. The two are held against each other.
+//! The standard mode of the event machine, which the oracle does not have, as the request says it. What a packet is taken for, and which
+//! one announces the stream, is said twice: by the state that the machine keeps, and by the packets alone. The two are held against each
+//! other.
 
 use crate::consumer::SIZE;
 use crate::event::Events;
-use crate::host_machine::NONE;
-use crate::rules::{self, counter, has_payload_flag, Happened};
+use crate::host_machine::{State, NONE};
+use crate::rules::{self, counter, has_payload_flag, has_start_flag, Happened};
 
 /// What a packet is taken for.
 #[derive(Clone, Copy, Debug, PartialEq)]
@@ -22,17 +23,18 @@ const ONCE: u64 = 1;
 pub const NO_MORE: u64 = 2;
 
 /// What a packet does in a state.
-pub fn happened(phase: u64, last: u64, again: u64, packet: &[u8]) -> Happened {
-    does(verdict(last, again, packet), phase, last, packet)
+pub fn happened(state: State, packet: &[u8]) -> Happened {
+    does(verdict(state.last, state.again, packet), state, packet)
 }
 
 /// What a packet does that is taken for this. A dropped one leaves the phase and the counter as they are; all others follow the rules
 /// of both modes.
-pub fn does(verdict: Verdict, phase: u64, last: u64, packet: &[u8]) -> Happened {
+pub fn does(verdict: Verdict, State { phase, last, announced, .. }: State, packet: &[u8]) -> Happened {
+    let unannounced = announced == 0;
     match verdict {
-        Verdict::On => rules::accepted(phase, true, packet),
+        Verdict::On => rules::accepted(phase, true, unannounced && has_start_flag(packet), packet),
         Verdict::Dropped => Happened { events: Events::default(), phase, last, again: NO_MORE },
-        Verdict::Break => rules::accepted(phase, false, packet),
+        Verdict::Break => rules::accepted(phase, false, unannounced, packet),
     }
 }
 
@@ -96,6 +98,28 @@ pub fn verdicts(packets: &[u8]) -> impl Iterator<Item = Verdict> + '_ {
             // The first is dropped, and so is the third, the fifth.. The others come right after a dropped one.
             nth if nth % 2 == 1 => Verdict::Dropped,
             _ => Verdict::Break,
+        }
+    })
+}
+
+/// What it is in a packet that announces the stream.
+#[derive(Clone, Copy, Debug, PartialEq)]
+pub enum By {
+    Start,
+    Break,
+    Both,
+}
+
+/// Which packet announces the stream, where the stream begins with the first of them: the first that is not dropped and has the start
+/// flag or is a break.
+pub fn announcing(packets: &[u8]) -> Option<(usize, By)> {
+    let taken_for = verdicts(packets).zip(packets.chunks_exact(SIZE)).enumerate();
+    taken_for.filter(|(_, (verdict, _))| *verdict != Verdict::Dropped).find_map(|(nth, (verdict, packet))| {
+        match (has_start_flag(packet), verdict == Verdict::Break) {
+            (true, false) => Some((nth, By::Start)),
+            (false, true) => Some((nth, By::Break)),
+            (true, true) => Some((nth, By::Both)),
+            (false, false) => None,
         }
     })
 }

@@ -1,27 +1,34 @@
 //! Streams through the event machine in the standard mode, made at random and real: as machine_stream.rs goes over those of the crate's
 //! mode, with the rules of standard_rules.rs for a judge. The rules have two judges themselves: what they say by the packets alone, and
-//! the oracle, over the stream as it would be without repeats and discontinuities.
+//! the oracle, over the stream as it would be without repeats and discontinuities. What the request says of StartStream is also looked
+//! for in the library's own log.
 
 use crate::answer::Answer;
 use crate::consumer::{Oracle, SIZE};
-use crate::event::{decoded, ENTRY};
+use crate::event::{self, decoded, Event, ENTRY};
 use crate::host_machine::{self, State, MOST_TAKEN, NONE, STANDARD};
-use crate::machine_stream::{make_packet, random_taken, Told, Walk};
+use crate::machine_stream::{longest_log, make_packet, random_taken, Told, Walk};
 use crate::rng::Rng;
-use crate::rules::{counter, has_payload_flag};
-use crate::standard_rules::{has_discontinuity_bit, verdict, verdicts, NO_MORE};
+use crate::rules::{counter, has_payload_flag, has_start_flag};
+use crate::standard_rules::{announcing, has_discontinuity_bit, verdict, verdicts, NO_MORE};
 use crate::tally::{hex, Tally};
 
 /// The most packets of a random stream, and of a part of it in one mode, where the mode changes.
 const MOST: usize = 4096;
 const MOST_IN_A_MODE: usize = 64;
+const FEW_IN_A_MODE: usize = 4;
 
 /// The packets that are always compared: enough for every number.
 const ALWAYS: u64 = 100_000;
 
+/// Short streams from a state before any packet, and the most packets of one: which packet announces a stream, its first packets
+/// decide. In one of four the mode changes.
+const SHORT: usize = 10_000;
+const MOST_OF_SHORT: usize = 16;
+
 /// Compares on random streams, until so many packets more are taken than those that are always compared. The first stream runs out of
-/// indices. Of eight others five begin before any packet, of which one is also sent with each packet twice; two begin in any state; and
-/// in one the mode changes.
+/// indices, and short ones follow it. Of eight others five begin before any packet, of which one is also sent with each packet twice; two
+/// begin in any state; and in one the mode changes.
 pub fn compare_random(count: u64, rng: &mut Rng) -> Vec<Tally> {
     let mut standard = Standard::new(MOST, [&[0, 15, 16], &[0, 1, 14], &[0, 2, 15, 16], &[0]]);
     let mut packets = vec![0; MOST * SIZE];
@@ -29,13 +36,22 @@ pub fn compare_random(count: u64, rng: &mut Rng) -> Vec<Tally> {
     make_stream(&mut packets, rng);
     let first = State::FIRST_STANDARD;
     standard.stream(&packets, State { taken: MOST_TAKEN - MOST as u64 / 2, ..first }, rng);
-    while standard.walk.taken() < ALWAYS + count {
+    for _ in 0..SHORT {
+        let stream = &mut packets[..SIZE * (1 + rng.below(MOST_OF_SHORT))];
+        make_stream(stream, rng);
+        match rng.below(4) {
+            0 => standard.changing(stream, random_mode(first, rng), FEW_IN_A_MODE, rng),
+            _ => _ = standard.stream(stream, first, rng),
+        }
+    }
+    let all = standard.walk.taken() + ALWAYS + count;
+    while standard.walk.taken() < all {
         let stream = &mut packets[..SIZE * (1 + rng.below(MOST))];
         make_stream(stream, rng);
         let first = State { taken: random_taken(stream.len() / SIZE, rng), ..first };
         match rng.below(8) {
             0 | 1 => _ = standard.stream(stream, random_state(first, rng), rng),
-            2 => standard.changing(stream, random_state(first, rng), rng),
+            2 => standard.changing(stream, random_mode(random_state(first, rng), rng), MOST_IN_A_MODE, rng),
             3 => standard.stream_and_twice(stream, first, rng),
             _ => _ = standard.stream(stream, first, rng),
         }
@@ -44,10 +60,15 @@ pub fn compare_random(count: u64, rng: &mut Rng) -> Vec<Tally> {
     standard.into_tallies()
 }
 
-/// Any phase, counter and number that says whether a packet may be repeated: also those that no stream leads to.
+/// Any phase, counter and number that says whether a packet may be repeated, announced or not: also those that no stream leads to.
 fn random_state(state: State, rng: &mut Rng) -> State {
     let last = Some(rng.below(17) as u64).filter(|last| *last < 16).unwrap_or(NONE);
-    State { phase: rng.below(3) as u64, last, again: rng.below(3) as u64, ..state }
+    let [phase, again, announced] = [3, 3, 2].map(|bound| rng.below(bound) as u64);
+    State { phase, last, again, announced, ..state }
+}
+
+fn random_mode(state: State, rng: &mut Rng) -> State {
+    State { mode: rng.below(2) as u64, ..state }
 }
 
 // ---- A stream and its judges.
@@ -56,7 +77,10 @@ pub struct Standard {
     walk: Walk,
     /// What packets are taken for, by the state and by the packets alone: those that go on, dropped ones, and breaks.
     alone: [Tally; 3],
+    /// Which packet announces the stream, by both.
+    starts_alone: Tally,
     oracle: Tally,
+    announcement: Announcement,
     twice: Twice,
 }
 
@@ -68,7 +92,9 @@ impl Standard {
         Standard {
             walk: Walk::new("standard mode, streams", most, must),
             alone: alone.map(|name| Tally::of_oracle(&name, &[0])),
+            starts_alone: Tally::of_oracle("standard mode, StartStream, the rules against the packets alone", &[0]),
             oracle: Tally::of_oracle("standard mode, the rules against the Rust without repeats", &[0]),
+            announcement: Announcement::new(),
             twice: Twice::new(),
         }
     }
@@ -79,20 +105,21 @@ impl Standard {
             self.alone(packets, &told);
         }
         self.oracle(packets, &told);
+        self.announcement.stream(packets, &told);
         told
     }
 
-    /// A stream before whose parts the host sets the mode, and begins the log anew.
-    fn changing(&mut self, packets: &[u8], first: State, rng: &mut Rng) {
+    /// A stream before whose parts, of so many packets at most, the host sets the mode, and begins the log anew.
+    fn changing(&mut self, packets: &[u8], first: State, most: usize, rng: &mut Rng) {
         let (mut rest, mut state) = (packets, first);
         while !rest.is_empty() {
-            let count = (1 + rng.below(MOST_IN_A_MODE)).min(rest.len() / SIZE);
+            let count = (1 + rng.below(most)).min(rest.len() / SIZE);
             let (part, others) = rest.split_at(count * SIZE);
             let told = match state.mode {
                 STANDARD => self.stream(part, State { place: 0, ..state }, rng),
                 _ => self.walk.stream(part, State { place: 0, ..state }, rng),
             };
-            state = State { mode: rng.below(2) as u64, ..told.before(told.count()) };
+            state = random_mode(told.before(told.count()), rng);
             rest = others;
         }
     }
@@ -111,8 +138,14 @@ impl Standard {
         self.stream(&each_twice, State::FIRST_STANDARD, rng);
     }
 
-    /// What each packet is taken for, by the packets up to it. Nothing went before them, or what did has no counter.
+    /// What each packet is taken for, by the packets up to it, and which one announces the stream. Nothing went before them, or what did
+    /// has no counter.
     fn alone(&mut self, packets: &[u8], told: &Told) {
+        let agrees = starts_as_alone(packets, told);
+        let input = || format!("{:?}, {}", told.before(0), heads(packets));
+        self.starts_alone.take_check(&Answer::done(&[]), agrees, input, || {
+            format!("StartStream with {:?}", starts(told).collect::<Vec<_>>())
+        });
         for (nth, alone) in (0..told.count()).zip(verdicts(packets)) {
             let (before, up_to) = (told.before(nth), &packets[..(nth + 1) * SIZE]);
             let agrees = verdict(before.last, before.again, &up_to[nth * SIZE..]) == alone;
@@ -122,7 +155,8 @@ impl Standard {
         }
     }
 
-    /// The oracle gives the same events, where it can be brought to the first state.
+    /// The oracle gives the same events, where it can be brought to the first state; but for StartStream, which is due with a start or
+    /// what the oracle finds to be a break.
     fn oracle(&mut self, packets: &[u8], told: &Told) {
         let first = told.before(0);
         let Some(mut oracle) = Oracle::brought_to(first.phase, first.last) else { return };
@@ -133,8 +167,10 @@ impl Standard {
                 true => entries.is_empty(),
                 false => {
                     let events = oracle.consume(&smooth.sent(packet));
-                    let due = events.iter().flat_map(|event| event.entry(before.taken as u32));
-                    due.eq(entries.iter().copied())
+                    let start = before.announced == 0 && (has_start_flag(packet) || events.has(event::ERROR));
+                    let lead = start.then(|| Event::bare(event::START)).into_iter();
+                    let due = lead.chain(events.iter().copied().filter(|event| event.kind != event::START));
+                    due.flat_map(|event| event.entry(before.taken as u32)).eq(entries.iter().copied())
                 }
             };
             let input = || format!("{before:?}, [{}]", hex(packet));
@@ -149,7 +185,8 @@ impl Standard {
 
     pub fn into_tallies(self) -> Vec<Tally> {
         let tallies = self.walk.into_tallies().into_iter();
-        tallies.chain(self.alone).chain([self.oracle, self.twice.tally]).collect()
+        let rules = self.alone.into_iter().chain([self.starts_alone, self.oracle]);
+        tallies.chain(rules).chain(self.announcement.into_tallies()).chain([self.twice.tally]).collect()
     }
 }
 
@@ -185,6 +222,110 @@ impl Smooth {
         sent[3] = packet[3] & 0xf0 | self.last as u8;
         sent
     }
+}
+
+// ---- The announcement.
+
+/// The packets that StartStream comes with.
+fn starts(told: &Told) -> impl Iterator<Item = usize> + '_ {
+    (0..told.count()).filter(|&nth| events_of(told.entries(nth, 1)).flatten().any(|[kind, ..]| kind == event::START))
+}
+
+/// Whether it comes where the packets alone have it. Nothing went before them, or what did has no counter.
+pub fn starts_as_alone(packets: &[u8], told: &Told) -> bool {
+    let due = announcing(&packets[..told.count() * SIZE]).filter(|_| told.before(0).announced == 0);
+    starts(told).eq(due.map(|(nth, _)| nth))
+}
+
+/// What the request says of StartStream and of the length of a log, looked for in the library's log. No rule of events is asked.
+struct Announcement {
+    /// From a state before any packet: where nothing announces the stream, and by what announces it.
+    fresh: [Tally; 4],
+    /// From other states.
+    others: Tally,
+    packets: Vec<u8>,
+    log: Vec<u8>,
+}
+
+impl Announcement {
+    fn new() -> Announcement {
+        let name = |by| format!("machine::run, standard mode, StartStream from a fresh state: {by}");
+        let fresh = ["by nothing", "by a start", "by a break", "by both"].map(name);
+        // A recording need not have them all; random streams have, or nothing was compared there, which does not pass.
+        Announcement {
+            fresh: fresh.map(|name| Tally::of_bytes(&name, &[])),
+            others: Tally::of_bytes("machine::run, standard mode, StartStream from other states", &[]),
+            packets: vec![],
+            log: vec![],
+        }
+    }
+
+    fn stream(&mut self, packets: &[u8], told: &Told) {
+        let (first, packets) = (told.before(0), &packets[..told.count() * SIZE]);
+        let (events, due) = (self.events(first, packets), announcing(packets));
+        let index = due.map(|(nth, _)| first.taken + nth as u64);
+        let agrees = events.as_ref().is_some_and(|events| {
+            starts_at_most_once(events, first) && (!is_fresh(first) || begins_with_start(events, index))
+        });
+        let tally = match is_fresh(first) {
+            true => &mut self.fresh[due.map_or(0, |(_, by)| 1 + by as usize)],
+            false => &mut self.others,
+        };
+        let input = || format!("{first:?}, {}", heads(packets));
+        let given = || events.map_or("no run over all".to_string(), |events| format!("{} events", events.len()));
+        tally.take_check(&Answer::done(&[]), agrees, input, given);
+    }
+
+    /// The events of a run over the packets with a log that is just long enough; nothing where it does not take them all.
+    fn events(&mut self, first: State, packets: &[u8]) -> Option<Vec<[u64; 4]>> {
+        let (mut state, mut ran) = (State { place: 0, ..first }, [0; 2]);
+        self.packets.clear();
+        self.packets.extend_from_slice(packets);
+        self.log.resize(ENTRY * most_events(first, packets), 0);
+        let word = host_machine::run(&mut state, &mut self.packets, &mut self.log, &mut ran);
+        let all = word == 0 && ran == [(packets.len() / SIZE) as u64, 0];
+        events_of(self.log.get(..state.place).filter(|_| all)?).collect()
+    }
+
+    fn into_tallies(self) -> impl Iterator<Item = Tally> {
+        self.fresh.into_iter().chain([self.others])
+    }
+}
+
+/// As the standard mode begins, with any number of packets taken.
+fn is_fresh(state: State) -> bool {
+    State { taken: 0, place: 0, ..state }.numbers() == State::FIRST_STANDARD.numbers()
+}
+
+/// The bound: an event for each packet, one more for each with the start flag, and one for StartStream. The last does not count where
+/// the stream was announced, nor from a fresh state: there StartStream comes with a start that ends no unit, or after a packet that has no
+/// event.
+fn most_events(first: State, packets: &[u8]) -> usize {
+    let packets = packets.chunks_exact(SIZE);
+    let starts = packets.clone().filter(|packet| has_start_flag(packet)).count();
+    packets.len() + starts + usize::from(!is_fresh(first) && first.announced == 0)
+}
+
+/// Whether the first event is StartStream, with the packet of this index; or there is no event, where there is no such packet.
+fn begins_with_start(events: &[[u64; 4]], due: Option<u64>) -> bool {
+    let first = events.first().map(|[kind, index, ..]| (*kind, *index));
+    first == due.map(|index| (event::START, index))
+}
+
+/// Whether StartStream comes once or never, and never in a stream that was announced; and before the other events of its packet.
+fn starts_at_most_once(events: &[[u64; 4]], first: State) -> bool {
+    let index_before = [None].into_iter().chain(events.iter().map(|[_, index, ..]| Some(*index)));
+    let pairs = events.iter().zip(index_before);
+    let mut starts = pairs.filter(|([kind, ..], _)| *kind == event::START);
+    match starts.next() {
+        None => true,
+        Some(([_, index, ..], before)) => first.announced == 0 && before < Some(*index) && starts.next().is_none(),
+    }
+}
+
+/// The events of entries: kind, index, place and length; nothing for one that is no entry.
+fn events_of(entries: &[u8]) -> impl Iterator<Item = Option<[u64; 4]>> + '_ {
+    entries.chunks_exact(ENTRY).map(|entry| decoded(entry.try_into().expect("the bytes of an entry")))
 }
 
 // ---- Each packet twice.
@@ -267,15 +408,15 @@ impl Sent {
     /// How many bytes of the log a run over the packets writes, where it takes them all.
     fn run(&mut self) -> Option<usize> {
         let (mut state, mut ran) = (State::FIRST_STANDARD, [0; 2]);
-        self.log.resize(2 * ENTRY * self.nth.len(), 0);
+        self.log.resize(longest_log(self.nth.len()), 0);
         let word = host_machine::run(&mut state, &mut self.packets, &mut self.log, &mut ran);
         (word == 0 && ran == [self.nth.len() as u64, 0]).then_some(state.place)
     }
 
     /// The events in these bytes of the log, each with the number of its packet; nothing for one that is no entry.
     fn events(&self, bytes: usize) -> impl Iterator<Item = Option<[u64; 4]>> + '_ {
-        self.log[..bytes].chunks_exact(ENTRY).map(|entry| {
-            let [kind, index, place, length] = decoded(entry.try_into().expect("the bytes of an entry"))?;
+        events_of(&self.log[..bytes]).map(|event| {
+            let [kind, index, place, length] = event?;
             Some([kind, *self.nth.get(index as usize)?, place, length])
         })
     }

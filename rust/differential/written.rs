@@ -46,18 +46,24 @@ impl Written<'_> {
         Event { kind, place: (SIZE - length) as u64, length: length as u64 }
     }
 
-    /// The events of a packet, where the first comes in this phase.
-    fn events(&self, phase: u64, nth: usize) -> impl Iterator<Item = Event> {
-        let lead = match (nth, phase) {
-            (0, BEGIN) => Some(Event::bare(event::START)),
-            (0, STARTED) => Some(Event::bare(event::END)),
-            _ => None,
-        };
-        lead.into_iter().chain([self.part(nth)])
+    /// The events of a packet, where the first comes in this state.
+    fn events(&self, state: State, nth: usize) -> impl Iterator<Item = Event> {
+        let start = nth == 0 && announces(state);
+        let end = nth == 0 && state.phase == STARTED;
+        let lead = [(start, event::START), (end, event::END)].into_iter().filter(|(comes, _)| *comes);
+        lead.map(|(_, kind)| Event::bare(kind)).chain([self.part(nth)])
     }
 
     fn text(&self) -> String {
         format!("{:?} with {} bytes of payload", self.unit, self.payload.len())
+    }
+}
+
+/// Whether a start that is no break announces the stream: in the crate's mode by the phase, in the standard mode if it was not yet.
+fn announces(state: State) -> bool {
+    match state.mode {
+        STANDARD => state.announced == 0,
+        _ => state.phase == BEGIN,
     }
 }
 
@@ -74,7 +80,7 @@ pub struct ReadBack {
 impl ReadBack {
     /// Of units with up to so many bytes of payload.
     pub fn new(most: usize) -> ReadBack {
-        let room = ENTRY * (most / CARRIED + 4);
+        let room = ENTRY * (most / CARRIED + 5);
         let mut filling = vec![0; room];
         Rng::new(most as u64).fill(&mut filling);
         ReadBack {
@@ -100,10 +106,11 @@ impl ReadBack {
         for (phase, last) in
             [BEGIN, STARTED, IGNORE_REST].into_iter().flat_map(|phase| [(phase, NONE), (phase, before)])
         {
-            self.read_events(&mut written, phase, last);
+            self.read_events(&mut written, State { phase, last, ..State::FIRST });
             for mode in [CRATE, STANDARD] {
-                let (again, taken) = (rng.below(3) as u64, rng.next() >> 33);
-                self.run(&mut written, State { mode, phase, last, again, taken, place: 0 }, rng);
+                let (again, announced) = (rng.below(3) as u64, rng.below(2) as u64);
+                let taken = rng.next() >> 33;
+                self.run(&mut written, State { mode, phase, last, again, announced, taken, place: 0 }, rng);
             }
         }
     }
@@ -136,11 +143,12 @@ impl ReadBack {
     }
 
     /// From a state that the oracle can be brought to: no other events.
-    fn read_events(&mut self, written: &mut Written, phase: u64, last: u64) {
+    fn read_events(&mut self, written: &mut Written, state: State) {
+        let State { phase, last, .. } = state;
         let Some(mut oracle) = Oracle::brought_to(phase, last) else { return };
         let odd = (0..written.count).find(|&nth| {
             let events = oracle.consume(written.packet(nth));
-            !events.iter().copied().eq(written.events(phase, nth))
+            !events.iter().copied().eq(written.events(state, nth))
         });
         let input = || format!("{} in phase {phase} after {last}", written.text());
         self.events.take_check(&Answer::done(&[]), odd.is_none(), input, || format!("others at packet {odd:?}"));
@@ -151,10 +159,11 @@ impl ReadBack {
     fn run(&mut self, written: &mut Written, state: State, rng: &mut Rng) {
         let mut after = State { phase: STARTED, again: 1, taken: state.taken + written.count as u64, ..state };
         after.last = (u64::from(written.unit.counter) + written.count as u64 - 1) % 16;
-        let room = ENTRY * (written.count + 1) + rng.below(ENTRY);
+        after.announced |= u64::from(announces(state));
+        let room = ENTRY * (written.count + 2) + rng.below(ENTRY);
         self.log.set(&self.filling[..room], rng.next() as u8);
         for nth in 0..written.count {
-            for event in written.events(state.phase, nth) {
+            for event in written.events(state, nth) {
                 self.log.expect(after.place, &event.entry(state.taken as u32 + nth as u32));
                 after.place += ENTRY;
             }

@@ -100,8 +100,8 @@ impl Cases {
 
     /// One packet with any row for a state and a log of any length, by a step and by a run.
     fn step(&mut self, mut input: Input, rng: Rng) {
-        let [mode, phase, last, again, taken, place] = [(); 6].map(|()| input.long());
-        let state = State { mode, phase, last, again, taken, place: place as usize };
+        let [mode, phase, last, again, announced, taken, place] = [(); 7].map(|()| input.long());
+        let state = State { mode, phase, last, again, announced, taken, place: place as usize };
         let room = usize::from(input.byte()) % (machine::LONGEST_LOG + 1);
         self.steps.rng = rng;
         self.steps.take(state, input.rest(machine::LONGEST_PACKET), room);
@@ -137,12 +137,13 @@ impl Cases {
     }
 }
 
-/// A state by a byte for each number but the last two: the mode, the phase, the counter, with any byte above 15 for none, and whether
-/// the packet before may be repeated; then the packets taken. The log is empty.
+/// A state by a byte for each number but the last two: the mode, the phase, the counter, with any byte above 15 for none, whether the
+/// packet before may be repeated, and whether the stream was announced; then the packets taken. The log is empty.
 fn state(input: &mut Input) -> State {
-    let [mode, phase, last, again] = [(); 4].map(|()| u64::from(input.byte()));
+    let [mode, phase, last, again, announced] = [(); 5].map(|()| u64::from(input.byte()));
+    let (mode, phase, again, announced) = (mode % 2, phase % 3, again % 3, announced % 2);
     let last = if last < 16 { last } else { NONE };
-    State { mode: mode % 2, phase: phase % 3, last, again: again % 3, taken: input.word().into(), place: 0 }
+    State { mode, phase, last, again, announced, taken: input.word().into(), place: 0 }
 }
 
 /// A unit by its row.

@@ -22,7 +22,7 @@ uint32_t __wrap_cmv_pes_contents_pts_dts(const uint8_t *buf, size_t buf_len, uin
 WRONG(cmv_machine_run);
 
 /* A lent byte that changes and is not to: where an end and a begin, two entries, do not fit, the log's next byte. */
-uint32_t __wrap_cmv_machine_run(uint64_t state[6], const uint8_t *bytes, size_t bytes_len, uint8_t *log, size_t log_len, uint64_t *taken,
+uint32_t __wrap_cmv_machine_run(uint64_t state[CMV_MACHINE_SIZE], const uint8_t *bytes, size_t bytes_len, uint8_t *log, size_t log_len, uint64_t *taken,
     uint64_t *ended) {
     uint32_t word = __real_cmv_machine_run(state, bytes, bytes_len, log, log_len, taken, ended);
     if (word == 0 && *ended == 15 && state[CMV_MACHINE_PHASE] == 1 && log_len - state[CMV_MACHINE_PLACE] >= 8)
@@ -35,7 +35,7 @@ uint32_t __wrap_cmv_machine_run(uint64_t state[6], const uint8_t *bytes, size_t 
 WRONG(cmv_machine_step);
 
 /* A state that differs: in the standard mode, where a packet comes a third time, which is a break, that it was dropped as the second one. */
-uint32_t __wrap_cmv_machine_step(uint64_t state[6], const uint8_t *packet, size_t packet_len, uint8_t *log, size_t log_len) {
+uint32_t __wrap_cmv_machine_step(uint64_t state[CMV_MACHINE_SIZE], const uint8_t *packet, size_t packet_len, uint8_t *log, size_t log_len) {
     uint64_t mode = state[CMV_MACHINE_MODE], last = state[CMV_MACHINE_LAST], again = state[CMV_MACHINE_AGAIN];
     uint32_t word = __real_cmv_machine_step(state, packet, packet_len, log, log_len);
     if (word == 0 && mode == 1 && again == 2 && state[CMV_MACHINE_AGAIN] == 1 && state[CMV_MACHINE_LAST] == last)
