@@ -94,6 +94,12 @@ check_build_script() {
     echo "build script: says what is missing"
 }
 
+# A recording that begins with a break: a packet without the start flag, and the next unit without the packet before it.
+begun_late() { # FILE
+    head -c $((15 * 188)) "$1" | tail -c 188
+    tail -c +$((16 * 188 + 1)) "$1"
+}
+
 run_examples() {
     local bytes file
     "$runner" "$out/times" "$top/samples/sample.ts" 2>/dev/null | diff "$here/examples/times.txt" - || fail "the example times prints something else"
@@ -101,8 +107,9 @@ run_examples() {
     [ "$bytes" -eq 7600 ] || fail "the example payload writes $bytes bytes" # four units: tools/sample says how long each is
     need_python
     python3 -B "$top/tools/python/twice.py" "$top/samples/sample.ts" "$out/twice.ts"
-    for file in "$top/samples/sample.ts" "$out/twice.ts"; do "$runner" "$out/standard" "$file"; done | diff "$here/examples/standard.txt" - ||
-        fail "the example standard prints something else"
+    begun_late "$top/samples/sample.ts" >"$out/late.ts"
+    for file in "$top/samples/sample.ts" "$out"/{twice,late}.ts; do "$runner" "$out/standard" "$file"; done |
+        diff "$here/examples/standard.txt" - || fail "the example standard prints something else"
     echo "examples: as stored"
 }
 

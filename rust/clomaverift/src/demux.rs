@@ -10,8 +10,8 @@ use alloc::vec;
 use alloc::vec::Vec;
 use core::{fmt, mem};
 
-/// The log of one packet, which has at most two events.
-const LOG: usize = 16;
+/// The log of one packet, which has at most three events.
+const LOG: usize = 3 * ENTRY;
 
 /// The most bytes of a unit, if the caller says nothing else.
 const UNIT: usize = 16 << 20;
@@ -34,13 +34,16 @@ const STUFFING: [u8; Packet::SIZE] = {
 #[derive(Clone, Copy, Debug)]
 #[non_exhaustive]
 pub enum Found<'a> {
-    /// The first packet of a PID that begins something.
+    /// A PID is announced, with its first packet that begins something. A continuity error that comes before announces it in
+    /// [`Mode::Standard`], so that no unit and no error of a PID is told before this; in [`Mode::Crate`] such a PID is never announced.
     #[non_exhaustive]
     StartStream {
         /// The PID.
         pid: Pid,
         /// The packet.
         index: u64,
+        /// Whether that packet is a continuity error: in [`Mode::Standard`] alone. The error is told next.
+        by_break: bool,
     },
     /// A unit begins. Its payload comes as [`Found::Unit`], once it has ended.
     #[non_exhaustive]
@@ -236,6 +239,34 @@ impl Mark {
 ///
 /// twice[2 * Packet::SIZE + 1] |= 0x80; // the third packet is marked as damaged: the fourth is taken in its place
 /// assert_eq!(units(Demux::standard(), &twice), [[1; 500]]);
+/// # Ok::<(), clomaverift::Error>(())
+/// ```
+///
+/// # Streams that begin with a break
+///
+/// A program that shows a stream from its [`Found::StartStream`] on misses those whose first continuity error comes before their first
+/// unit: mpeg2ts-reader, and so [`Demux::new`], never announces them. [`Demux::standard`] announces every stream that has a unit or a
+/// continuity error, and says whether the error announced it.
+///
+/// ```
+/// use clomaverift::{Demux, Found, Packet, Unit};
+///
+/// fn announced(mut demux: Demux, recording: &[u8]) -> Vec<(u16, u64, bool)> {
+///     let mut streams = Vec::new();
+///     demux.push(recording, |found| {
+///         if let Found::StartStream { pid, index, by_break, .. } = found {
+///             streams.push((pid.into(), index, by_break));
+///         }
+///     });
+///     streams
+/// }
+///
+/// let whole = Unit::new(0x100, 0xE0).packets(&[1; 100])?;
+/// let cut = Unit::new(0x101, 0xE0).packets(&[1; 500])?; // three packets, of which the first is missing, and so is ..
+/// let next = Unit::new(0x101, 0xE0).counter(4).packets(&[2; 100])?; // .. the one before this
+/// let recording = [&whole, &cut[Packet::SIZE..], &next].concat();
+/// assert_eq!(announced(Demux::new(), &recording), [(0x100, 0, false)]);
+/// assert_eq!(announced(Demux::standard(), &recording), [(0x100, 0, false), (0x101, 3, true)]);
 /// # Ok::<(), clomaverift::Error>(())
 /// ```
 ///
@@ -472,10 +503,17 @@ impl Demux {
     fn events(&mut self, slot: usize, packet: &[u8], log: &[u8], tell: &mut impl FnMut(Found<'_>)) {
         for at in (0..log.len()).step_by(ENTRY) {
             match Event::at(log, at) {
+                Ok(Event { kind: EventKind::StartStream, .. }) => self.announced(slot, &log[at + ENTRY..], tell),
                 Ok(event) => self.event(slot, packet, event, tell),
                 Err(error) => tell(Found::Refused { index: self.index, error }),
             }
         }
+    }
+
+    /// Tells that a stream is announced. If a continuity error does it, that is the next event of the packet.
+    fn announced(&self, slot: usize, rest: &[u8], tell: &mut impl FnMut(Found<'_>)) {
+        let by_break = matches!(Event::at(rest, 0), Ok(Event { kind: EventKind::ContinuityError, .. }));
+        tell(Found::StartStream { pid: self.streams[slot].pid, index: self.index, by_break });
     }
 
     /// Tells that a packet was dropped as a repeat. It is not inlined either.
@@ -668,9 +706,8 @@ impl Stream {
     fn tell(&mut self, packet: &[u8], event: Event, index: u64, tell: &mut impl FnMut(Found<'_>)) {
         let pid = self.pid;
         match event.kind {
-            EventKind::StartStream => tell(Found::StartStream { pid, index }),
+            EventKind::StartStream | EventKind::ContinuePacket => (),
             EventKind::BeginPacket => self.begin(event.bytes(packet), index, tell),
-            EventKind::ContinuePacket => (),
             EventKind::EndPacket => self.end(packet, true, tell),
             EventKind::ContinuityError => {
                 self.unit = None;
@@ -707,7 +744,8 @@ mod tests {
     /// A line for each thing found.
     fn line(found: Found<'_>) -> String {
         match found {
-            Found::StartStream { pid, index } => format!("{index} start {pid:?}"),
+            Found::StartStream { pid, index, by_break: false } => format!("{index} start {pid:?}"),
+            Found::StartStream { pid, index, by_break: true } => format!("{index} start by a break {pid:?}"),
             Found::Begin { pid, index, header } => format!("{index} begin {pid:?} {:?}", header.stream_id()),
             Found::Unit(unit) => {
                 let (pts, dts) = (unit.pts().map(Timestamp::value), unit.dts().map(Timestamp::value));
@@ -1001,6 +1039,56 @@ mod tests {
         let mut demux = demux.mode(Mode::Standard);
         demux.push(&unit[..188], |it| found.push(line(it)));
         let rest = ["1 error Pid(0030)", "1 begin Pid(0030) Video(0)", "2 repeated Pid(0030)"];
+        assert_eq!(found[2..], rest);
+    }
+
+    /// A recording that begins within a unit, of which the last packet is missing: a packet of it, and the next unit.
+    fn begun_late() -> Vec<u8> {
+        let unit = Unit::new(0x30, 0xE0).packets(&[1; 500]).unwrap();
+        let next = Unit::new(0x30, 0xE0).counter(3).packets(&[2; 300]).unwrap();
+        [&unit[188..376], &next].concat()
+    }
+
+    #[test]
+    fn an_early_break_announces_a_stream_in_the_standard_mode() {
+        let expected = [
+            "1 start by a break Pid(0030)",
+            "1 error Pid(0030)",
+            "1 begin Pid(0030) Video(0)",
+            "1 unit Pid(0030) None None 300 false",
+        ];
+        assert_eq!(lines(Demux::standard(), &begun_late()), expected);
+        assert_eq!(lines(Demux::new(), &begun_late()), expected[1..]);
+        // A break without a start flag does it too. The next one announces nothing.
+        let unit = Unit::new(0x30, 0xE0).packets(&[1; 900]).unwrap();
+        let breaks = ["1 start by a break Pid(0030)", "1 error Pid(0030)", "2 error Pid(0030)"];
+        let gaps = [&unit[188..376], &unit[3 * 188..4 * 188], &unit[..188]].concat();
+        assert_eq!(lines(Demux::standard(), &gaps)[..3], breaks);
+        assert_eq!(lines(Demux::new(), &gaps)[..2], breaks[1..]);
+    }
+
+    #[test]
+    fn a_repeat_announces_nothing() {
+        let mut unit = Unit::new(0x30, 0xE0).packets(&[1; 500]).unwrap();
+        let same = [&unit[188..376], &unit[188..376]].concat();
+        assert_eq!(lines(Demux::standard(), &same), ["1 repeated Pid(0030)"]);
+        // Its other bytes are not compared, so it may have the start flag.
+        let middle = unit[188..376].to_vec();
+        unit[3] = middle[3];
+        assert_eq!(lines(Demux::standard(), &[&middle, &unit[..188]].concat()), ["1 repeated Pid(0030)"]);
+        let told = lines(Demux::standard(), &[&middle, &unit[..188], &unit[..188]].concat());
+        assert_eq!(told[..3], ["1 repeated Pid(0030)", "2 start by a break Pid(0030)", "2 error Pid(0030)"]);
+    }
+
+    #[test]
+    fn a_change_of_mode_announces_a_stream_that_was_not() {
+        let third = Unit::new(0x30, 0xE0).counter(5).packets(&[3; 10]).unwrap();
+        let mut demux = Demux::new();
+        let mut found = Vec::new();
+        demux.push(&begun_late(), |it| found.push(line(it)));
+        let mut demux = demux.mode(Mode::Standard);
+        demux.push(&third, |it| found.push(line(it)));
+        let rest = ["3 start Pid(0030)", "1 unit Pid(0030) None None 300 true", "3 begin Pid(0030) Video(0)"];
         assert_eq!(found[2..], rest);
     }
 

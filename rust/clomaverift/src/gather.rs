@@ -19,7 +19,7 @@ const FRESH: [u64; 3] = [0, 0, STORE];
 /// let mut packet = [0xFF; 188];
 /// packet[..15].copy_from_slice(&[0x47, 0x41, 0, 0x10, 0, 0, 1, 0xE0, 0, 0, 0x80, 0, 0, 7, 8]);
 /// let (mut machine, mut gathering) = (Machine::new(), Gathering::new());
-/// let (mut log, mut store) = ([0; 16], [0; 1_000]);
+/// let (mut log, mut store) = ([0; 24], [0; 1_000]);
 /// machine.step(&packet, &mut log)?;
 /// for event in machine.events(&log) {
 ///     gathering.gather(&packet, event?, &mut store)?;

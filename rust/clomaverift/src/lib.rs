@@ -14,7 +14,8 @@
 //! - [`Unit`] and [`write()`]: a unit with its payload as packets.
 //!
 //! Continuity counters are judged as mpeg2ts-reader judges them, unless the standard's rules are asked for: for stations that send packets
-//! twice, [`Machine::standard`] and [`Demux::standard`] drop the repeats. [`Mode`] says how the two differ.
+//! twice, [`Machine::standard`] and [`Demux::standard`] drop the repeats. They also announce every stream, where mpeg2ts-reader loses one
+//! that begins with a continuity error. [`Mode`] says how the two differ.
 //!
 //! Enums and structs that may grow are `#[non_exhaustive]`; those that the standard closes ([`PtsDts`], [`PesLength`], [`DsmTrickMode`] and
 //! the like) are not. A number that a newer library gives and this crate does not know is [`Error::Unknown`].
@@ -83,11 +84,11 @@
 //! | `PatPacketFilter`, `PmtPacketFilter`, `StreamType`, the modules `psi`, `descriptor`, `mpegts_crc` | left out: program tables are not read |
 //! | `STUFFING_PID`, `psi::pat::PAT_PID` | [`Pid::STUFFING`], [`Pid::PAT`] |
 //!
-//! Added: [`Mode::Standard`], in which a station may send packets twice, and [`ContinuityCounter::compare`]; [`Packet::fields`] and
-//! [`PesParsedContents::fields`], which read all fields by one call; [`PesParsedContents`]'s `flags`, `pes_header_data_len`,
-//! `pes_scrambling_control` and `raw_trick_mode`; [`PesHeader::payload`], [`PesContents::parsed`], [`StreamId`]'s `number`, `audio` and
-//! `video`, [`PesExtension::buffer`]; `AdaptationControl::new` and `TransportScramblingControl::from_byte_four`, which are private there;
-//! differences of times and their seconds; `Display`, `Hash`, `Ord` and conversions.
+//! Added: [`Mode::Standard`], in which a station may send packets twice and every stream is announced, and [`ContinuityCounter::compare`];
+//! [`Packet::fields`] and [`PesParsedContents::fields`], which read all fields by one call; [`PesParsedContents`]'s `flags`,
+//! `pes_header_data_len`, `pes_scrambling_control` and `raw_trick_mode`; [`PesHeader::payload`], [`PesContents::parsed`], [`StreamId`]'s
+//! `number`, `audio` and `video`, [`PesExtension::buffer`]; `AdaptationControl::new` and `TransportScramblingControl::from_byte_four`,
+//! which are private there; differences of times and their seconds; `Display`, `Hash`, `Ord` and conversions.
 //!
 //! # Without std
 //!

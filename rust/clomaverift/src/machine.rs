@@ -11,8 +11,9 @@ const MODE: usize = 0;
 const PHASE: usize = 1;
 const LAST: usize = 2;
 const REPEAT: usize = 3;
-const TAKEN: usize = 4;
-const PLACE: usize = 5;
+const ANNOUNCED: usize = 4;
+const TAKEN: usize = 5;
+const PLACE: usize = 6;
 
 /// The number of no last counter.
 const NO_COUNTER: u64 = 255;
@@ -22,11 +23,12 @@ pub(crate) const ENTRY: usize = 8;
 
 /// By whose rules a machine judges the continuity counters. In both modes a packet with the payload flag goes on if its counter is the one
 /// after the last, and one without it if its counter is the last again; the first packet always goes on. The modes differ in what becomes
-/// of other packets. Each case has the number that it has in the row of the C header.
+/// of other packets, and in which packet announces a stream. Each case has the number that it has in the row of the C header.
 #[derive(Clone, Copy, Debug, Default, PartialEq, Eq, Hash)]
 #[non_exhaustive]
 pub enum Mode {
-    /// By those of mpeg2ts-reader: every other packet is a continuity error. So is each repeat, if a station sends packets twice.
+    /// By those of mpeg2ts-reader: every other packet is a continuity error. So is each repeat, if a station sends packets twice. A stream
+    /// whose first continuity error comes before its first packet with the start flag is never announced.
     #[default]
     Crate = 0,
     /// By those of Rec. ITU-T H.222.0 | ISO/IEC 13818-1 (2.4.3.3 and 2.4.3.5).
@@ -36,6 +38,9 @@ pub enum Mode {
     /// after a dropped one is a continuity error, and one more after that is dropped again. [`Repeat`] says which of them is next.
     ///
     /// A packet whose adaptation field has the discontinuity flag goes on whatever its counter is, and is never a repeat.
+    ///
+    /// Every stream is announced: [`EventKind::StartStream`] comes with the first packet that has the start flag or is a continuity error,
+    /// and is not dropped. It precedes that packet's other events. So it is the first event of a stream, and is given once.
     Standard = 1,
 }
 
@@ -92,7 +97,8 @@ numbered!(Phase: Begin, Started, IgnoreRest);
 
 /// The event machine of one PID's packets: what mpeg2ts-reader's `PesPacketFilter` tells its consumer is written to a log here.
 ///
-/// The caller keeps the log: any slice, 8 bytes for each event. A packet has at most two events, so 16 bytes are enough for it.
+/// The caller keeps the log: any slice, 8 bytes for each event. A packet has at most two events, and three in [`Mode::Standard`], so 24
+/// bytes are enough for it.
 ///
 /// ```
 /// use clomaverift::{EventKind, Machine};
@@ -137,6 +143,31 @@ numbered!(Phase: Begin, Started, IgnoreRest);
 /// assert_eq!(errors(events(Machine::new(), &twice)), 3);
 /// # Ok::<(), clomaverift::Error>(())
 /// ```
+///
+/// # Streams that begin with a continuity error
+///
+/// A recording may begin within a unit, and lose packets before the next unit begins. mpeg2ts-reader then never announces the stream, and
+/// neither does [`Machine::new`]; [`Machine::standard`] announces it with the packet that is the continuity error:
+///
+/// ```
+/// use clomaverift::{EventKind, Machine, Packet, Unit};
+///
+/// fn kinds(mut machine: Machine, packets: &[u8]) -> Vec<EventKind> {
+///     let mut log = [0; 64];
+///     let ran = machine.run(packets, &mut log).unwrap();
+///     assert_eq!(ran.ended, None);
+///     machine.events(&log).map(|event| event.unwrap().kind).collect()
+/// }
+///
+/// let before = Unit::new(0x100, 0xE0).packets(&[1; 500])?; // counters 0 to 2
+/// let next = Unit::new(0x100, 0xE0).counter(3).packets(&[2; 100])?;
+/// let cut = [&before[Packet::SIZE..2 * Packet::SIZE], &next].concat(); // counters 1 and 3
+///
+/// let lost = [EventKind::ContinuityError, EventKind::BeginPacket];
+/// assert_eq!(kinds(Machine::new(), &cut), lost);
+/// assert_eq!(kinds(Machine::standard(), &cut), [&[EventKind::StartStream], &lost[..]].concat());
+/// # Ok::<(), clomaverift::Error>(())
+/// ```
 #[derive(Clone, Copy, PartialEq, Eq, Hash)]
 pub struct Machine {
     /// The row of numbers that the library is lent.
@@ -168,7 +199,7 @@ impl Machine {
     /// A machine before its first packet. Entries of the library fill the same rows, and a test holds the two together.
     #[inline]
     pub(crate) fn fresh(mode: Mode) -> Machine {
-        Machine::from_parts(mode, Phase::Begin, None, Repeat::Barred, 0, 0)
+        Machine::from_parts(mode, Phase::Begin, None, Repeat::Barred, false, 0, 0)
     }
 
     /// A machine in a state that was kept elsewhere: each part is what the method of its name gives. A step or a run checks the place,
@@ -178,12 +209,13 @@ impl Machine {
     /// use clomaverift::{ContinuityCounter, Machine, Mode, Phase, Repeat};
     ///
     /// let machine = Machine::from_parts(
-    ///     Mode::Standard, Phase::Started, Some(ContinuityCounter::new(5)?), Repeat::Open, 1_000, 0,
+    ///     Mode::Standard, Phase::Started, Some(ContinuityCounter::new(5)?), Repeat::Open, true, 1_000, 0,
     /// );
     /// let numbers: [u8; 3] = [machine.mode().into(), machine.phase().into(), machine.repeat().into()]; // to be stored
     /// let [mode, phase, repeat] = numbers;
     /// let (mode, phase, repeat) = (mode.try_into()?, phase.try_into()?, repeat.try_into()?);
-    /// let again = Machine::from_parts(mode, phase, machine.last(), repeat, machine.taken(), machine.place());
+    /// let (last, announced) = (machine.last(), machine.announced());
+    /// let again = Machine::from_parts(mode, phase, last, repeat, announced, machine.taken(), machine.place());
     /// assert_eq!(again, machine);
     /// # Ok::<(), clomaverift::Error>(())
     /// ```
@@ -194,11 +226,13 @@ impl Machine {
         phase: Phase,
         last: Option<ContinuityCounter>,
         repeat: Repeat,
+        announced: bool,
         taken: u32,
         place: usize,
     ) -> Machine {
         let last = last.map_or(NO_COUNTER, |counter| counter.count().into());
-        Machine { row: [mode as u64, phase as u64, last, repeat as u64, taken.into(), place as u64] }
+        let row = [mode as u64, phase as u64, last, repeat as u64, announced.into(), taken.into(), place as u64];
+        Machine { row }
     }
 
     /// Takes a packet, and writes its events to the log.
@@ -206,7 +240,8 @@ impl Machine {
     /// # Errors
     ///
     /// In this order: [`Error::WrongLength`], [`Error::NoSync`], [`Error::OutOfRange`] for a place that is not a multiple of 8 within the
-    /// log, [`Error::IndexFull`], [`Error::LogFull`]. A refused packet changes neither the machine nor the log.
+    /// log, [`Error::IndexFull`], [`Error::LogFull`] if there is not room for all events of the packet. A refused packet changes neither
+    /// the machine nor the log.
     #[inline]
     pub fn step(&mut self, packet: &[u8], log: &mut [u8]) -> Result<(), Error> {
         ffi::machine_step(&mut self.row, packet, log)
@@ -244,7 +279,7 @@ impl Machine {
     /// assert_eq!(machine.run(&[0x47; 187], &mut log), Err(Error::WrongLength));
     /// assert_eq!((machine, log), (Machine::new(), [7; 64]));
     ///
-    /// let mut between_entries = Machine::from_parts(Mode::Crate, Phase::Begin, None, Repeat::Barred, 0, 4);
+    /// let mut between_entries = Machine::from_parts(Mode::Crate, Phase::Begin, None, Repeat::Barred, false, 0, 4);
     /// assert_eq!(between_entries.run(&[], &mut log), Err(Error::OutOfRange));
     /// ```
     #[inline]
@@ -318,6 +353,31 @@ impl Machine {
         }
     }
 
+    /// Whether the stream was announced: whether a packet taken gave [`EventKind::StartStream`], in either mode. In [`Mode::Standard`] it is
+    /// not announced again; [`Mode::Crate`] does not ask for it.
+    ///
+    /// ```
+    /// use clomaverift::{EventKind, Machine, Mode, Unit};
+    ///
+    /// let first = Unit::new(0x100, 0xE0).packets(&[1; 100])?;
+    /// let second = Unit::new(0x100, 0xE0).counter(1).packets(&[2; 100])?;
+    /// let (mut machine, mut log) = (Machine::new(), [0; 64]);
+    /// machine.step(&first, &mut log)?;
+    /// assert!(machine.announced());
+    ///
+    /// machine.rewind();
+    /// machine.set_mode(Mode::Standard);
+    /// machine.step(&second, &mut log)?;
+    /// let kinds: Vec<_> = machine.events(&log).map(|event| event.unwrap().kind).collect();
+    /// assert_eq!(kinds, [EventKind::EndPacket, EventKind::BeginPacket]);
+    /// # Ok::<(), clomaverift::Error>(())
+    /// ```
+    #[must_use]
+    #[inline]
+    pub fn announced(&self) -> bool {
+        self.row[ANNOUNCED] != 0
+    }
+
     /// The packets taken, repeats too: the index of the next one.
     #[must_use]
     #[inline]
@@ -337,7 +397,8 @@ impl fmt::Debug for Machine {
     fn fmt(&self, f: &mut fmt::Formatter<'_>) -> fmt::Result {
         let mut parts = f.debug_struct("Machine");
         parts.field("mode", &self.mode()).field("phase", &self.phase()).field("last", &self.last());
-        parts.field("repeat", &self.repeat()).field("taken", &self.taken()).field("place", &self.place()).finish()
+        parts.field("repeat", &self.repeat()).field("announced", &self.announced());
+        parts.field("taken", &self.taken()).field("place", &self.place()).finish()
     }
 }
 
@@ -365,7 +426,8 @@ impl Ran {
 #[derive(Clone, Copy, Debug, PartialEq, Eq, Hash)]
 #[non_exhaustive]
 pub enum EventKind {
-    /// The first packet with the start flag.
+    /// The stream is announced, with its first packet that has the start flag, unless a continuity error came before it. In
+    /// [`Mode::Standard`] the continuity error itself announces it, and no stream is lost.
     StartStream = 1,
     /// A unit begins with this packet's payload.
     BeginPacket = 2,
@@ -532,7 +594,7 @@ mod tests {
 
     /// A machine in the crate's mode.
     fn kept(phase: Phase, last: Option<ContinuityCounter>, taken: u32, place: usize) -> Machine {
-        Machine::from_parts(Mode::Crate, phase, last, Repeat::Barred, taken, place)
+        Machine::from_parts(Mode::Crate, phase, last, Repeat::Barred, true, taken, place)
     }
 
     fn told(machine: &Machine, log: &[u8]) -> Vec<(u32, EventKind, u8, u8)> {
@@ -561,8 +623,8 @@ mod tests {
     #[test]
     fn a_new_machine_is_the_librarys() {
         for number in [0, 1, 255, u64::MAX] {
-            assert_eq!(ffi::constants::machine_fresh([number; 6]), Machine::new().row);
-            assert_eq!(ffi::constants::machine_standard([number; 6]), Machine::standard().row);
+            assert_eq!(ffi::constants::machine_fresh([number; ffi::MACHINE]), Machine::new().row);
+            assert_eq!(ffi::constants::machine_standard([number; ffi::MACHINE]), Machine::standard().row);
         }
     }
 
@@ -653,39 +715,65 @@ mod tests {
         bytes
     }
 
-    /// What becomes of a packet: it goes on, it is dropped or it breaks.
-    fn events_of(name: &str, fate: &str, phase: &mut Phase) -> Vec<EventKind> {
-        let mut events = Vec::new();
-        match (fate, *phase) {
-            ("drop", _) => return events,
-            ("break", _) => {
-                events.push(EventKind::ContinuityError);
-                *phase = Phase::IgnoreRest;
+    /// A machine by the rules, of which a packet's fate is told: it goes on, it is dropped or it breaks.
+    struct Rules {
+        mode: Mode,
+        phase: Phase,
+        announced: bool,
+    }
+
+    impl Rules {
+        fn of(machine: &Machine) -> Rules {
+            Rules { mode: machine.mode(), phase: machine.phase(), announced: machine.announced() }
+        }
+
+        /// Whether a packet that is not dropped announces the stream.
+        fn announces(&self, start: bool, breaks: bool) -> bool {
+            match self.mode {
+                Mode::Crate => start && !breaks && self.phase == Phase::Begin,
+                Mode::Standard => (start || breaks) && !self.announced,
             }
-            (_, Phase::Begin) if name.contains('s') => events.push(EventKind::StartStream),
-            (_, Phase::Started) if name.contains('s') => events.push(EventKind::EndPacket),
-            (_, Phase::Started) if name.starts_with('P') => events.push(EventKind::ContinuePacket),
-            _ => (),
         }
-        if name.contains('s') {
-            events.push(EventKind::BeginPacket);
-            *phase = Phase::Started;
+
+        /// The events of a packet, after which the rules are those of the next one.
+        fn events_of(&mut self, name: &str, fate: &str) -> Vec<EventKind> {
+            let (start, breaks, mut events) = (name.contains('s'), fate == "break", Vec::new());
+            if fate == "drop" {
+                return events;
+            }
+            if self.announces(start, breaks) {
+                events.push(EventKind::StartStream);
+                self.announced = true;
+            }
+            if breaks {
+                events.push(EventKind::ContinuityError);
+                self.phase = Phase::IgnoreRest;
+            }
+            match self.phase {
+                Phase::Started if start => events.push(EventKind::EndPacket),
+                Phase::Started if name.starts_with('P') => events.push(EventKind::ContinuePacket),
+                _ => (),
+            }
+            if start {
+                events.push(EventKind::BeginPacket);
+                self.phase = Phase::Started;
+            }
+            events
         }
-        events
     }
 
     /// Holds what becomes of packets, one after another, to the fates given: by a step for each, and by one run over all.
     fn check_fates(first: Machine, names: &str, fates: &str) {
         let packets: Vec<[u8; 188]> = names.split(' ').map(named).collect();
         let (mut stepped, mut log) = (first, [0; 256]);
-        let (mut phase, mut expected) = (first.phase(), Vec::new());
+        let (mut rules, mut expected) = (Rules::of(&first), Vec::new());
         for (index, (name, fate)) in (0..).zip(names.split(' ').zip(fates.split(' '))) {
-            let events = events_of(name, fate, &mut phase);
-            expected.extend(events.into_iter().map(|kind| (index, kind)));
+            expected.extend(rules.events_of(name, fate).into_iter().map(|kind| (index, kind)));
             assert_eq!(stepped.step(&packets[index as usize], &mut log), Ok(()));
             let kinds: Vec<_> = told(&stepped, &log).iter().map(|(index, kind, ..)| (*index, *kind)).collect();
             assert_eq!(kinds, expected, "{names}: {name} at {index} from {first:?}");
-            assert_eq!((stepped.phase(), stepped.taken(), stepped.mode()), (phase, index + 1, first.mode()), "{names}");
+            assert_eq!((stepped.phase(), stepped.announced()), (rules.phase, rules.announced), "{names}: {name}");
+            assert_eq!((stepped.taken(), stepped.mode()), (index + 1, first.mode()), "{names}");
             let repeat = match fate {
                 "drop" => Repeat::Spent,
                 _ if name.starts_with('P') => Repeat::Open,
@@ -701,9 +789,11 @@ mod tests {
         assert_eq!((ran, log_of_run), (stepped, log), "{names}");
     }
 
-    /// Before its first packet, and in a unit.
-    fn firsts(mode: Mode) -> [Machine; 2] {
-        [Machine::fresh(mode), Machine::from_parts(mode, Phase::Started, None, Repeat::Barred, 0, 0)]
+    /// Before its first packet, in every phase, announced or not.
+    fn firsts(mode: Mode) -> Vec<Machine> {
+        let first = |phase, announced| Machine::from_parts(mode, phase, None, Repeat::Barred, announced, 0, 0);
+        let phases = [Phase::Begin, Phase::Started, Phase::IgnoreRest].into_iter();
+        phases.flat_map(|phase| [first(phase, false), first(phase, true)]).collect()
     }
 
     #[test]
@@ -727,6 +817,9 @@ mod tests {
             ("P5 P7s P7s P8", "on break drop on"),
             ("P5 A9 A9 P9", "on break on break"),
             ("P5 P4", "on break"),
+            ("P5 P7s P7s P9s", "on break drop break"),
+            ("P5 P5s P5s P6s", "on drop break on"),
+            ("P5 P9ds P9s P10s", "on on drop on"),
         ];
         for (names, fates) in rows {
             firsts(Mode::Standard).iter().for_each(|first| check_fates(*first, names, fates));
@@ -742,6 +835,8 @@ mod tests {
             ("P5 P5d", "on break"),
             ("A5 A9d", "on break"),
             ("P5 P5s", "on break"),
+            ("P5s P6s", "on on"),
+            ("P5 P7s P8s", "on break on"),
         ];
         for (names, fates) in rows {
             firsts(Mode::Crate).iter().for_each(|first| check_fates(*first, names, fates));
@@ -765,21 +860,104 @@ mod tests {
         assert_eq!(step(Mode::Standard, "P5"), (true, Repeat::Open));
     }
 
+    /// The kinds of the events of each packet, in the mode that stands before its name: c the crate's, s the standard's.
+    fn kinds_of(names: &str) -> Vec<Vec<EventKind>> {
+        let (mut machine, mut log) = (Machine::new(), [0; 24]);
+        let mut step = |word: &str| {
+            let (mode, name) = word.split_once(':').unwrap();
+            machine.rewind();
+            machine.set_mode(if mode == "s" { Mode::Standard } else { Mode::Crate });
+            machine.step(&named(name), &mut log).unwrap();
+            told(&machine, &log).iter().map(|(_, kind, ..)| *kind).collect()
+        };
+        names.split(' ').map(&mut step).collect()
+    }
+
+    #[test]
+    fn a_stream_is_announced_first_and_once() {
+        use EventKind::{BeginPacket as Begin, ContinuityError as Break, EndPacket as End, StartStream as Start};
+        let of = |names| kinds_of(names).concat();
+        assert_eq!(of("s:P5 s:P6s s:P7s"), [Start, Begin, End, Begin]);
+        assert_eq!(of("s:P5 s:P7s s:P8s"), [Start, Break, Begin, End, Begin]);
+        assert_eq!(of("s:P5 s:P7 s:P9s"), [Start, Break, Break, Begin]);
+        assert_eq!(of("s:P5 s:P7 s:P8s"), [Start, Break, Begin]);
+        assert_eq!(of("s:P5 s:A7 s:P8s"), [Start, Break, Begin]);
+        // A packet that is dropped announces nothing, whatever its flags: the next one does.
+        assert_eq!(kinds_of("s:P5 s:P5s s:P6s"), [vec![], vec![], vec![Start, Begin]]);
+        assert_eq!(kinds_of("s:P5 s:P5s s:P5s"), [vec![], vec![], vec![Start, Break, Begin]]);
+        // The crate's mode loses the start.
+        assert_eq!(of("c:P5 c:P6s c:P7s"), [Start, Begin, End, Begin]);
+        assert_eq!(of("c:P5 c:P7s c:P8s"), [Break, Begin, End, Begin]);
+        assert_eq!(of("c:P5 c:P7 c:P9s"), [Break, Break, Begin]);
+    }
+
+    #[test]
+    fn a_change_of_mode_announces_a_stream_that_was_not() {
+        use EventKind::{BeginPacket as Begin, ContinuityError as Break, EndPacket as End, StartStream as Start};
+        assert_eq!(kinds_of("c:P5 c:P7s s:P8s"), [vec![], vec![Break, Begin], vec![Start, End, Begin]]);
+        assert_eq!(kinds_of("c:P5 c:P7s s:P9s"), [vec![], vec![Break, Begin], vec![Start, Break, Begin]]);
+        assert_eq!(kinds_of("c:P5 c:P7s s:P8s c:P9s").last().unwrap(), &[End, Begin]);
+        // One that the crate's mode announced is not announced again.
+        assert_eq!(kinds_of("c:P5s s:P6s s:P9"), [vec![Start, Begin], vec![End, Begin], vec![Break]]);
+        assert_eq!(kinds_of("s:P5 s:P7 c:P8s"), [vec![], vec![Start, Break], vec![Begin]]);
+    }
+
+    #[test]
+    fn three_events_need_room_for_three() {
+        let seven = ContinuityCounter::new(7).ok();
+        for (name, second) in [("P8s", EventKind::EndPacket), ("P9s", EventKind::ContinuityError)] {
+            let first = Machine::from_parts(Mode::Standard, Phase::Started, seven, Repeat::Open, false, 3, 8);
+            for room in 0..24 {
+                let (mut machine, mut log) = (first, [7; 8 + 24]);
+                assert_eq!(machine.step(&named(name), &mut log[..8 + room]), Err(Error::LogFull));
+                assert_eq!((machine, log), (first, [7; 8 + 24]), "{name}, {room} bytes");
+                let ran = machine.run(&named(name), &mut log[..8 + room]);
+                assert_eq!(ran, Ok(Ran { packets: 0, ended: Some(Error::LogFull) }));
+                assert_eq!((machine, log), (first, [7; 8 + 24]), "{name}, {room} bytes");
+            }
+            let (mut machine, mut log) = (first, [7; 8 + 24]);
+            assert_eq!(machine.step(&named(name), &mut log), Ok(()));
+            let events: Vec<_> = Events::new(&log[8..]).map(|event| event.unwrap()).collect();
+            let expected = [
+                Event::new(EventKind::StartStream, 3, 0, 0),
+                Event::new(second, 3, 0, 0),
+                Event::new(EventKind::BeginPacket, 3, 4, 184),
+            ];
+            assert_eq!((&log[..8], &events[..]), (&[7; 8][..], &expected[..]), "{name}");
+            assert_eq!((machine.announced(), machine.taken(), machine.place()), (true, 4, 32));
+        }
+    }
+
+    #[test]
+    fn announced_is_0_or_1() {
+        for mode in [Mode::Crate, Mode::Standard] {
+            for number in [2, 255, 256, 1 << 32, u64::MAX] {
+                let mut machine = Machine::fresh(mode);
+                machine.row[ANNOUNCED] = number;
+                let (before, mut log) = (machine, [7; 24]);
+                assert_eq!(machine.step(&packet(true, 0), &mut log), Err(Error::OutOfRange));
+                assert_eq!(machine.run(&[], &mut log), Err(Error::OutOfRange));
+                assert_eq!((machine, log), (before, [7; 24]));
+            }
+        }
+    }
+
     #[test]
     fn a_repeat_needs_no_room_in_the_log_and_is_counted() {
         let five = ContinuityCounter::new(5).ok();
         for (repeat, broken) in [(Repeat::Barred, true), (Repeat::Open, false), (Repeat::Spent, true)] {
-            let first = Machine::from_parts(Mode::Standard, Phase::Started, five, repeat, u32::MAX - 1, 0);
+            let first = Machine::from_parts(Mode::Standard, Phase::Started, five, repeat, false, u32::MAX - 1, 0);
             let mut machine = first;
             let stepped = machine.step(&named("P5s"), &mut []);
             if broken {
                 assert_eq!((stepped, machine), (Err(Error::LogFull), first));
             } else {
-                let dropped = Machine::from_parts(Mode::Standard, Phase::Started, five, Repeat::Spent, u32::MAX, 0);
+                let spent = Repeat::Spent;
+                let dropped = Machine::from_parts(Mode::Standard, Phase::Started, five, spent, false, u32::MAX, 0);
                 assert_eq!((stepped, machine), (Ok(()), dropped));
             }
         }
-        let mut full = Machine::from_parts(Mode::Standard, Phase::Started, five, Repeat::Open, u32::MAX, 0);
+        let mut full = Machine::from_parts(Mode::Standard, Phase::Started, five, Repeat::Open, true, u32::MAX, 0);
         assert_eq!(full.step(&named("P5"), &mut []), Err(Error::IndexFull));
     }
 
@@ -788,12 +966,13 @@ mod tests {
         let fifteen = ContinuityCounter::new(15).ok();
         for mode in [Mode::Crate, Mode::Standard] {
             for phase in [Phase::Begin, Phase::Started, Phase::IgnoreRest] {
-                for repeat in [Repeat::Barred, Repeat::Open, Repeat::Spent] {
-                    let mut machine = Machine::from_parts(mode, phase, fifteen, repeat, 7, 16);
+                for (repeat, announced) in [(Repeat::Barred, true), (Repeat::Open, false), (Repeat::Spent, true)] {
+                    let mut machine = Machine::from_parts(mode, phase, fifteen, repeat, announced, 7, 16);
                     assert_eq!((machine.mode(), machine.phase(), machine.last()), (mode, phase, fifteen));
-                    assert_eq!((machine.repeat(), machine.taken(), machine.place()), (repeat, 7, 16));
+                    assert_eq!((machine.repeat(), machine.announced()), (repeat, announced));
+                    assert_eq!((machine.taken(), machine.place()), (7, 16));
                     machine.rewind();
-                    assert_eq!(machine, Machine::from_parts(mode, phase, fifteen, repeat, 0, 0));
+                    assert_eq!(machine, Machine::from_parts(mode, phase, fifteen, repeat, announced, 0, 0));
                 }
             }
         }
@@ -803,7 +982,8 @@ mod tests {
             assert_eq!(Phase::try_from(number).map(u8::from), answer(3));
             assert_eq!(Repeat::try_from(number).map(u8::from), answer(3));
         }
-        let text = "Machine { mode: Standard, phase: Begin, last: None, repeat: Barred, taken: 0, place: 0 }";
+        let text =
+            "Machine { mode: Standard, phase: Begin, last: None, repeat: Barred, announced: false, taken: 0, place: 0 }";
         assert_eq!(format!("{:?}", Machine::standard()), text);
     }
 

@@ -1,7 +1,8 @@
-//! Damaged recordings of two PIDs: whatever the bytes, the driver finds in both modes the units that a plain reading of the events finds.
+//! Damaged recordings of two PIDs: whatever the bytes, the driver finds in both modes the units that a plain reading of the events finds,
+//! and in the standard mode every stream is announced, first and once.
 
-use clomaverift::{Demux, EventKind, Found, Machine, Marked, Mode, Packet, PesHeader, Pid};
-use std::collections::BTreeMap;
+use clomaverift::{Demux, Event, EventKind, Found, Machine, Marked, Mode, Packet, PesHeader, Pid};
+use std::collections::{BTreeMap, BTreeSet};
 
 const SAMPLE: &[u8] = include_bytes!(concat!(env!("CARGO_MANIFEST_DIR"), "/../../samples/sample.ts"));
 const RECORDINGS: u64 = 200;
@@ -72,16 +73,14 @@ fn found(recording: &[u8], (mode, marked): How) -> (Vec<Told>, Vec<Told>) {
     (ended, open)
 }
 
-/// The same by the events of a machine for each PID, and by the headers.
-fn plain(recording: &[u8], (mode, marked): How) -> (Vec<Told>, Vec<Told>) {
+/// The events of a machine for each PID: those of a packet at a time, with its PID, index and bytes.
+fn each_packet(recording: &[u8], (mode, marked): How, mut take: impl FnMut(Pid, u64, &[u8], &[Event])) {
     let fresh = || match mode {
         Mode::Standard => Machine::standard(),
         _ => Machine::new(),
     };
     let mut machines = BTreeMap::new();
-    let mut open: BTreeMap<Pid, Told> = BTreeMap::new();
-    let mut ended = Vec::new();
-    for (index, bytes) in recording.chunks(Packet::SIZE).enumerate() {
+    for (index, bytes) in (0..).zip(recording.chunks(Packet::SIZE)) {
         let packet = match Packet::try_new(bytes) {
             Ok(packet) => packet,
             Err(_) => continue,
@@ -93,28 +92,95 @@ fn plain(recording: &[u8], (mode, marked): How) -> (Vec<Told>, Vec<Told>) {
         }
         let machine = machines.entry(pid).or_insert_with(fresh);
         machine.rewind();
-        let mut log = [0; 16];
+        let mut log = [0; 24];
         machine.step(bytes, &mut log).unwrap();
-        for event in machine.events(&log).map(Result::unwrap) {
-            match event.kind {
-                EventKind::StartStream => (),
-                EventKind::BeginPacket => {
-                    let header = PesHeader::from_bytes(event.bytes(bytes)).unwrap();
-                    let payload = header.payload().unwrap_or_default();
-                    open.insert(pid, (pid.into(), index as u64, payload.to_vec()));
-                }
-                EventKind::ContinuePacket => {
-                    open.entry(pid).and_modify(|(_, _, payload)| payload.extend(event.bytes(bytes)));
-                }
-                EventKind::EndPacket => ended.extend(open.remove(&pid)),
-                EventKind::ContinuityError => {
-                    open.remove(&pid);
-                }
-                other => panic!("{other:?}"),
+        let events: Vec<_> = machine.events(&log).map(Result::unwrap).collect();
+        take(pid, index, bytes, &events);
+    }
+}
+
+/// The same by the events of a machine for each PID, and by the headers.
+fn plain(recording: &[u8], how: How) -> (Vec<Told>, Vec<Told>) {
+    let mut open: BTreeMap<Pid, Told> = BTreeMap::new();
+    let mut ended = Vec::new();
+    each_packet(recording, how, |pid, index, bytes, events| {
+        events.iter().for_each(|event| match event.kind {
+            EventKind::StartStream => (),
+            EventKind::BeginPacket => {
+                let header = PesHeader::from_bytes(event.bytes(bytes)).unwrap();
+                let payload = header.payload().unwrap_or_default();
+                open.insert(pid, (pid.into(), index, payload.to_vec()));
             }
+            EventKind::ContinuePacket => {
+                open.entry(pid).and_modify(|(_, _, payload)| payload.extend(event.bytes(bytes)));
+            }
+            EventKind::EndPacket => ended.extend(open.remove(&pid)),
+            EventKind::ContinuityError => {
+                open.remove(&pid);
+            }
+            other => panic!("{other:?}"),
+        });
+    });
+    (ended, open.into_values().collect())
+}
+
+/// The streams that are announced, in their order: PID, packet, whether by a break.
+type Announced = Vec<(Pid, u64, bool)>;
+
+fn announced(recording: &[u8], (mode, marked): How) -> Announced {
+    let mut announced = Vec::new();
+    Demux::new().mode(mode).marked(marked).push(recording, |found| {
+        if let Found::StartStream { pid, index, by_break, .. } = found {
+            announced.push((pid, index, by_break));
+        }
+    });
+    announced
+}
+
+/// The same by the events: with the first packet of a PID that has one, before its other events, and with no other packet. In the crate's
+/// mode not if that packet is a break.
+fn announced_first(recording: &[u8], how: How) -> Announced {
+    let (mut seen, mut announced) = (BTreeSet::new(), Vec::new());
+    each_packet(recording, how, |pid, index, _, events| {
+        let kinds: Vec<_> = events.iter().map(|event| event.kind).collect();
+        let starts = kinds.iter().filter(|kind| **kind == EventKind::StartStream).count();
+        let breaks = kinds.contains(&EventKind::ContinuityError);
+        let is_first = !kinds.is_empty() && seen.insert(pid);
+        let announces = is_first && (how.0 == Mode::Standard || !breaks);
+        assert_eq!(starts, usize::from(announces), "{how:?}, packet {index}: {kinds:?}");
+        assert!(!announces || kinds[0] == EventKind::StartStream, "{how:?}, packet {index}: {kinds:?}");
+        if announces {
+            announced.push((pid, index, breaks));
+        }
+    });
+    announced
+}
+
+/// A damaged recording that begins anywhere.
+fn damaged_and_cut(seed: u64) -> Vec<u8> {
+    let mut rng = Rng(seed);
+    let recording = damaged(&mut rng);
+    let first = rng.below(recording.len() / Packet::SIZE);
+    recording[first * Packet::SIZE..].to_vec()
+}
+
+#[test]
+fn every_stream_is_announced_first_and_once() {
+    let mut by_break = [0; 4];
+    let mut by_start = [0; 4];
+    for seed in 0..RECORDINGS {
+        let recording = damaged_and_cut(seed);
+        for (at, how) in WAYS.into_iter().enumerate() {
+            let told = announced(&recording, how);
+            assert_eq!(told, announced_first(&recording, how), "seed {seed}, {how:?}");
+            let breaks = told.iter().filter(|(.., by_break)| *by_break).count();
+            by_break[at] += breaks;
+            by_start[at] += told.len() - breaks;
         }
     }
-    (ended, open.into_values().collect())
+    let some = RECORDINGS as usize / 10;
+    assert!(by_start.iter().all(|count| *count > some), "{by_start:?} by a start");
+    assert!(by_break[..2] == [0, 0] && by_break[2..].iter().all(|count| *count > some), "{by_break:?} by a break");
 }
 
 #[test]
@@ -141,6 +207,7 @@ fn bytes_that_are_no_recording() {
         bytes.chunks_mut(Packet::SIZE).for_each(|packet| packet[0] = 0x47);
         for how in WAYS {
             assert_eq!(found(&bytes, how), plain(&bytes, how));
+            assert_eq!(announced(&bytes, how), announced_first(&bytes, how));
         }
     }
 }
