@@ -1,7 +1,7 @@
 #!/usr/bin/env bash
 # rust/cmv/test.sh [--store] : runs each sub-command of cmv on the sample, on a multiplex made from it, on the sample with each packet sent
-# twice, on noise, on an empty file, on a folder, into a pipe that is closed and onto a full device, and holds its output, sentences and exit
-# status against what is stored in tests/. The program is built first, if need be.
+# twice, on a recording that begins with a break, on noise, on an empty file, on a folder, into a pipe that is closed and onto a full
+# device, and holds its output, sentences and exit status against what is stored in tests/. The program is built first, if need be.
 #   --store  store what the program prints now
 set -euo pipefail
 export LC_ALL=C
@@ -113,7 +113,39 @@ check_twice() {
     refuses_units "$scratch/twice"
     exits 0 times "$scratch/twice" --standard --svg
     grep -q '>break: 1<' "$scratch/out" || fail "the picture has other breaks"
-    prints "$stored/sample-events.txt" events "$sample" --standard
+    exits 0 events "$sample" --standard
+    diff <(cells "$scratch/out") <(cells "$stored/sample-events.txt") || fail "the sample has other events by the standard"
+}
+
+# The rows of a table, whatever its columns' widths are.
+cells() { awk '{ $1 = $1 } 1' "$1"; } # FILE
+
+# Of PID 0x100 a packet without the start flag, and the unit after it without the packet between them: its first start flag is a break. Of
+# PID 0x101 a unit from its start on, and after all a null packet.
+late() {
+    python3 - "$sample" <<'END'
+import sys
+sample = open(sys.argv[1], "rb").read()
+packets = [sample[188 * index:188 * index + 188] for index in range(len(sample) // 188)]
+other = [packet[:2] + b"\x01" + packet[3:] for packet in packets[:2]]
+sys.stdout.buffer.write(b"".join([packets[14], *packets[16:19], *other, b"\x47\x1f\xff\x10" + b"\xff" * 184]))
+END
+}
+
+# By the standard the break announces the stream; as the original has it, no event does.
+check_late() {
+    late >"$scratch/late"
+    prints "$stored/late-events.txt" events "$scratch/late"
+    prints "$stored/late-summary.txt" summary "$scratch/late"
+    prints "$stored/late-standard-events.txt" events "$scratch/late" --standard
+    prints "$stored/late-standard-summary.txt" summary "$scratch/late" --standard
+    prints "$stored/late-standard-summary.csv" summary "$scratch/late" --standard --csv
+    prints "$stored/late-standard-summary.json" summary "$scratch/late" --standard --json
+    python3 -m json.tool "$scratch/out" >/dev/null || fail "summary --json is not JSON"
+    exits 0 events "$scratch/late" --standard --json
+    grep -q '"event":"start-break"' "$scratch/out" || fail "events --json does not tell that a break announced the stream"
+    exits 0 events "$scratch/late" --standard
+    diff <(cells "$scratch/out" | grep -v ' start-break ') <(cells "$stored/late-events.txt") || fail "the modes differ in more than the start"
 }
 
 # The columns that do not count packets: units to first PCR.
@@ -209,7 +241,7 @@ check_progress() {
 # Side by side, for on Arm most of the time is the emulator's start, and there is one for each run of the program.
 check_all() {
     local name job jobs=() failed=0
-    for name in sample multiplex twice lost_units bad_input output_errors usage progress; do
+    for name in sample multiplex twice late lost_units bad_input output_errors usage progress; do
         (
             scratch=$scratch/$name
             mkdir "$scratch"

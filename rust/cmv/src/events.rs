@@ -3,22 +3,32 @@
 use crate::input::Failure;
 use crate::options::Options;
 use crate::table::{standard_output, Cell, Column, Form, Table};
-use clomaverift::{EventKind, Packet, Pid};
+use clomaverift::{Error, Event, EventKind, Machine, Mode, Packet, Pid};
 use std::io::Write;
 
-const COLUMNS: &[Column] = &[
-    Column::new("packet", 10),
-    Column::new("pid", 6),
-    Column::new("event", 8),
-    Column::new("offset", 6),
-    Column::new("length", 6),
-];
+const fn columns_with(event: Column) -> [Column; 5] {
+    [Column::new("packet", 10), Column::new("pid", 6), event, Column::new("offset", 6), Column::new("length", 6)]
+}
 
-/// The log of one packet, which has at most two events.
-const LOG: usize = 16;
+const COLUMNS: &[Column] = &columns_with(Column::new("event", 8));
 
-fn word(kind: EventKind) -> &'static str {
+/// The longest word, `start-break`, is there in the standard mode alone.
+const STANDARD_COLUMNS: &[Column] = &columns_with(Column::new("event", 11));
+
+fn columns(mode: Mode) -> &'static [Column] {
+    match mode {
+        Mode::Standard => STANDARD_COLUMNS,
+        _ => COLUMNS,
+    }
+}
+
+/// The log of one packet, which has at most three events.
+const LOG: usize = 24;
+
+/// The word of an event, by the packet's next one: a stream may be announced by a break.
+fn word(kind: EventKind, next: Option<EventKind>) -> &'static str {
     match kind {
+        EventKind::StartStream if next == Some(EventKind::ContinuityError) => "start-break",
         EventKind::StartStream => "start",
         EventKind::BeginPacket => "begin",
         EventKind::ContinuePacket => "continue",
@@ -36,25 +46,29 @@ fn taken(packet: &Packet<'_>, chosen: Option<Pid>) -> bool {
         && !packet.transport_scrambling_control().is_scrambled()
 }
 
+/// The events of a packet.
+fn events_of(machine: &mut Machine, packet: &[u8]) -> Result<Vec<Event>, Error> {
+    let mut log = [0; LOG];
+    machine.rewind();
+    machine.step(packet, &mut log)?;
+    machine.events(&log).collect()
+}
+
 pub fn run(options: Options) -> Result<(), Failure> {
     let mut machines = vec![options.machine(); Pid::PID_COUNT];
-    let mut table = Table::begin(standard_output(), options.form, COLUMNS, false)?;
+    let mut table = Table::begin(standard_output(), options.form, columns(options.mode), false)?;
     let pid = options.pid;
     let tally = options.input.each(|index, bytes, packet| {
         let packet = match packet {
             Some(packet) if taken(&packet, pid) => packet,
             _ => return Ok(()),
         };
-        let machine = &mut machines[usize::from(packet.pid())];
-        let mut log = [0; LOG];
-        machine.rewind();
-        let stepped = machine.step(bytes, &mut log);
         let refused = |error| Failure::Said(format!("packet {index}: {error}")); // of an archive that is newer than the crate
-        stepped.map_err(refused)?;
-        for event in machine.events(&log) {
-            let event = event.map_err(refused)?;
+        let events = events_of(&mut machines[usize::from(packet.pid())], bytes).map_err(refused)?;
+        for (at, event) in events.iter().enumerate() {
+            let word = word(event.kind, events.get(at + 1).map(|next| next.kind));
             let (offset, length) = (Cell::Number(event.place.into()), Cell::Number(event.length.into()));
-            table.row(&[Cell::Number(index), Cell::Pid(packet.pid()), Cell::Word(word(event.kind)), offset, length])?;
+            table.row(&[Cell::Number(index), Cell::Pid(packet.pid()), Cell::Word(word), offset, length])?;
         }
         Ok(())
     })?;

@@ -13,11 +13,13 @@ const MARKED: &str = "Packets that are marked as scrambled or damaged are droppe
 
 const STANDARD: &str = "\
 With --standard a packet that repeats the one before on its PID is dropped, and one that announces a discontinuity is no
-break. Without it, counters are judged as by the Rust crate mpeg2ts-reader, and both are breaks.";
+break. Without it, counters are judged as by the Rust crate mpeg2ts-reader, and both are breaks; and a stream with a
+break before its first start flag is not announced.";
 
 const EVENTS: &str = "\
 Events: start (first packet with the start flag), begin (of a unit), continue, end (of the unit before), error (the
-continuity counter breaks). Offset and length are those of the payload in its packet.";
+continuity counter breaks); with --standard also start-break, a start that a break announces because it came first.
+Offset and length are those of the payload in its packet.";
 
 const TIMES: &str = "\
 PTS and DTS are printed in ticks of 90 kHz, PCR in ticks of 27 MHz. The PCR of a packet that is dropped as a repeat is
@@ -25,7 +27,8 @@ printed too. The picture shows all PIDs alike: --pid chooses one.";
 
 const SUMMARY: &str = "\
 Units are those that were read whole; the last one of a PID ends with the recording. Breaks are packets whose continuity
-counter does not follow the one before. With --standard there is one column more, the packets dropped as repeats.";
+counter does not follow the one before. With --standard there are two columns more: the packets dropped as repeats, and
+what announced the stream: start (its first start flag), break (a break that came before) or no (neither came).";
 
 const PAYLOAD: &str = "A unit that a break cuts off is left out.";
 

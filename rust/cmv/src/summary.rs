@@ -8,7 +8,10 @@ use clomaverift::{ClockRef, Found, Mark, Mode, Pid, Timestamp};
 use std::collections::BTreeMap;
 use std::io::{self, Write};
 
-/// The last one is there in the standard mode alone: in the other one no packet is dropped as a repeat.
+/// How many columns, the last ones, are there in the standard mode alone: in the other one no packet is dropped as a repeat, and no stream
+/// announced by a break.
+const OF_STANDARD: usize = 2;
+
 const COLUMNS: &[Column] = &[
     Column::new("pid", 6),
     Column::new("packets", 10),
@@ -20,12 +23,13 @@ const COLUMNS: &[Column] = &[
     Column::of_times("last_pts", 13),
     Column::of_times("first_pcr", 15),
     Column::new("repeated", 10),
+    Column::new("announced", 9),
 ];
 
 fn columns(mode: Mode) -> &'static [Column] {
     match mode {
         Mode::Standard => COLUMNS,
-        _ => &COLUMNS[..COLUMNS.len() - 1],
+        _ => &COLUMNS[..COLUMNS.len() - OF_STANDARD],
     }
 }
 
@@ -38,6 +42,8 @@ struct Row {
     scrambled: u64,
     damaged: u64,
     repeated: u64,
+    /// Whether the stream was announced, and if so whether by a break.
+    announced: Option<bool>,
     given_up: u64,
     first_pts: Option<Timestamp>,
     last_pts: Option<Timestamp>,
@@ -57,6 +63,11 @@ impl Row {
             Cell::timestamp(self.last_pts, seconds),
             Cell::clock(self.first_pcr, seconds),
             Cell::Number(self.repeated),
+            Cell::Word(match self.announced {
+                None => "no",
+                Some(false) => "start",
+                Some(true) => "break",
+            }),
         ]
     }
 }
@@ -65,6 +76,7 @@ type Rows = BTreeMap<Pid, Row>;
 
 fn found(rows: &mut Rows, found: Found<'_>) {
     match found {
+        Found::StartStream { pid, by_break, .. } => rows.entry(pid).or_default().announced = Some(by_break),
         Found::Unit(unit) => rows.entry(unit.pid).or_default().units += 1,
         Found::ContinuityError { pid, .. } => rows.entry(pid).or_default().breaks += 1,
         Found::StoreFull { pid, .. } => rows.entry(pid).or_default().given_up += 1,
@@ -84,6 +96,18 @@ fn found(rows: &mut Rows, found: Found<'_>) {
     }
 }
 
+fn words_of_standard(out: &mut impl Write, repeated: u64, by_break: u64) -> io::Result<()> {
+    match repeated {
+        0 => writeln!(out, "No packet repeats the one before."),
+        1 => writeln!(out, "1 packet repeats the one before: dropped."),
+        repeated => writeln!(out, "{repeated} packets repeat the one before: dropped."),
+    }?;
+    match by_break {
+        0 => writeln!(out, "No stream was announced by a break."),
+        by_break => writeln!(out, "{} announced by a break.", counted(by_break, "stream was", "streams were")),
+    }
+}
+
 fn words(out: &mut impl Write, tally: &Tally, rows: &Rows, mode: Mode) -> io::Result<()> {
     let sum = |of: fn(&Row) -> u64| rows.values().map(of).sum::<u64>();
     let packets = counted(sum(|row| row.packets), "packet", "packets");
@@ -99,12 +123,9 @@ fn words(out: &mut impl Write, tally: &Tally, rows: &Rows, mode: Mode) -> io::Re
         "{units} read whole; {} in the continuity counters.",
         counted(sum(|row| row.breaks), "break", "breaks")
     )?;
-    match (mode, sum(|row| row.repeated)) {
-        (Mode::Standard, 0) => writeln!(out, "No packet repeats the one before."),
-        (Mode::Standard, 1) => writeln!(out, "1 packet repeats the one before: dropped."),
-        (Mode::Standard, repeated) => writeln!(out, "{repeated} packets repeat the one before: dropped."),
-        _ => Ok(()),
-    }?;
+    if mode == Mode::Standard {
+        words_of_standard(out, sum(|row| row.repeated), sum(|row| u64::from(row.announced == Some(true))))?;
+    }
     match (sum(|row| row.scrambled), sum(|row| row.damaged)) {
         (0, 0) => writeln!(out, "No packet is marked as scrambled or damaged."),
         (scrambled, damaged) => {
