@@ -30,14 +30,16 @@ use Rattle.machine.specs.declared.row.ModeRead.{ModeRead}
 use Rattle.machine.specs.declared.row.PhaseRead.{PhaseRead}
 use Rattle.machine.specs.declared.row.LastRead.{LastRead}
 use Rattle.machine.specs.declared.row.AgainRead.{AgainRead}
+use Rattle.machine.specs.declared.row.AnnouncedRead.{AnnouncedRead}
 use Rattle.machine.specs.declared.row.RowRead.the-variants.{Is, Stray}
 use Rattle.machine.proofs.row.ModeRead.{the-type as mode-type}
 use Rattle.machine.proofs.row.PhaseRead.{the-type as phase-type}
 use Rattle.machine.proofs.row.LastRead.{the-type as last-type}
 use Rattle.machine.proofs.row.AgainRead.{the-type as again-type}
+use Rattle.machine.proofs.row.AnnouncedRead.{the-type as announced-type}
 use Rattle.machine.specs.Events.{asCounter}
 use Rattle.machine.specs.Step.{machine, wrongLast, notTaken}
-use Rattle.machine.specs.Row.{modeOf, phaseOf, lastOf, againOf, noLast, modeRead, phaseRead, lastRead, againRead}
+use Rattle.machine.specs.Row.{modeOf, phaseOf, lastOf, againOf, noLast, modeRead, phaseRead, lastRead, againRead, announcedRead}
 use Rattle.machine.specs.Row.{modeNumber, phaseNumber, lastNumber, againNumber, strays, machineOf, rowOf}
 
 -- ---- a number that is read stands for nothing, or for a value
@@ -137,9 +139,33 @@ module _ (n : ℕ) (r : AgainRead) (e : r ≡ againRead n) where
   unfolding againStrays againValue
   again-stands v f = read-stands AgainRead.Is AgainRead.Stray againStrays againValue (λ v. refl) refl (λ d v. refl) (ltb 2 n) (againOf n) v (sym f ∙ e)
 
+announcedStrays : AnnouncedRead → Bool
+announcedStrays (AnnouncedRead.Is v) = false
+announcedStrays AnnouncedRead.Stray = true
+
+announcedValue : Bool → AnnouncedRead → Bool
+announcedValue d (AnnouncedRead.Is v) = v
+announcedValue d AnnouncedRead.Stray = d
+
+module _ (n : ℕ) (r : AnnouncedRead) (e : r ≡ announcedRead n) where
+  announced-strays : OneOf (1 ∷ []) (tagOf announced-type r) → ltb 1 n ≡ true
+  unfolding announcedStrays announcedValue
+  announced-strays t = read-strays AnnouncedRead.Is AnnouncedRead.Stray announcedStrays announcedValue (λ v. refl) refl (λ d v. refl) (ltb 1 n) (eqb n 1) r (go r t) e
+    where
+      go : (r : AnnouncedRead) → OneOf (1 ∷ []) (tagOf announced-type r) → announcedStrays r ≡ true
+      go (AnnouncedRead.Is v) t = absurd (omega arith)
+      go AnnouncedRead.Stray t = refl
+
+  announced-stands : (v : Bool) → r ≡ AnnouncedRead.Is v → (ltb 1 n ≡ false) × (v ≡ eqb n 1)
+  unfolding announcedStrays announcedValue
+  announced-stands v f = read-stands AnnouncedRead.Is AnnouncedRead.Stray announcedStrays announcedValue (λ v. refl) refl (λ d v. refl) (ltb 1 n) (eqb n 1) v (sym f ∙ e)
+
 -- a number above all that stand for something
 pub mode-high : (n : ℕ) → (n ≡ 0 → ⊥) → (n ≡ 1 → ⊥) → ModeRead.Stray ≡ modeRead n
 mode-high n a b = simp (lt-ltb 1 n (omega arith))
+
+pub announced-high : (n : ℕ) → (n ≡ 0 → ⊥) → (n ≡ 1 → ⊥) → AnnouncedRead.Stray ≡ announcedRead n
+announced-high n a b = simp (lt-ltb 1 n (omega arith))
 
 module _ (n : ℕ) (a : n ≡ 0 → ⊥) (b : n ≡ 1 → ⊥) (c : n ≡ 2 → ⊥) where
   above-two : ltb 2 n ≡ true
@@ -196,29 +222,32 @@ module _ (xs : List ℕ) (r₀ : ModeRead) (e₀ : r₀ ≡ modeRead (getD xs 0 
         unfolding machineOf strays
         stray-again t = simp (h₀ .0, h₁ .0, h₂ .0, again-strays (getD xs 3 0) r₃ e₃ t)
 
-        module _ (ag : Repeat) (f₃ : r₃ ≡ AgainRead.Is ag) where
+        module _ (ag : Repeat) (f₃ : r₃ ≡ AgainRead.Is ag) (r₄ : AnnouncedRead) (e₄ : r₄ ≡ announcedRead (getD xs 4 0)) where
           abbrev h₃ : (ltb 2 (getD xs 3 0) ≡ false) × (ag ≡ againOf (getD xs 3 0))
           h₃ = again-stands (getD xs 3 0) r₃ e₃ ag f₃
 
-          pub stray-announced : 1 < getD xs 4 0 → Stray ≡ machineOf xs
+          pub stray-announced : OneOf (1 ∷ []) (tagOf announced-type r₄) → Stray ≡ machineOf xs
           unfolding machineOf strays
-          stray-announced h = simp (h₀ .0, h₁ .0, h₂ .0, h₃ .0, lt-ltb 1 (getD xs 4 0) h)
+          stray-announced t = simp (h₀ .0, h₁ .0, h₂ .0, h₃ .0, announced-strays (getD xs 4 0) r₄ e₄ t)
 
-          pub stray-count : getD xs 4 0 ≤ 1 → 4294967295 < getD xs 5 0 → Stray ≡ machineOf xs
+          pub stray-count : (an : Bool) → r₄ ≡ AnnouncedRead.Is an → 4294967295 < getD xs 5 0 → Stray ≡ machineOf xs
           unfolding machineOf strays
-          stray-count g h = simp (h₀ .0, h₁ .0, h₂ .0, h₃ .0, le-ltb 1 (getD xs 4 0) g, lt-ltb 4294967295 (getD xs 5 0) h)
+          stray-count an f₄ h =
+              simp (h₀ .0, h₁ .0, h₂ .0, h₃ .0, announced-stands (getD xs 4 0) r₄ e₄ an f₄ .0, lt-ltb 4294967295 (getD xs 5 0) h)
 
 -- all stand for something
-pub row-stands : (xs : List ℕ) (mo : Mode) (ph : Phase) (la : Last) (ag : Repeat) → modeRead (getD xs 0 0) ≡ ModeRead.Is mo → phaseRead (getD xs 1 0) ≡ PhaseRead.Is ph
-    → lastRead (getD xs 2 0) ≡ LastRead.Is la → againRead (getD xs 3 0) ≡ AgainRead.Is ag → getD xs 4 0 ≤ 1 → getD xs 5 0 ≤ 4294967295
-    → Is (machine mo ph la ag (eqb (getD xs 4 0) 1) (getD xs 5 0) (getD xs 6 0)) ≡ machineOf xs
+pub row-stands : (xs : List ℕ) (mo : Mode) (ph : Phase) (la : Last) (ag : Repeat) (an : Bool) → modeRead (getD xs 0 0) ≡ ModeRead.Is mo → phaseRead (getD xs 1 0) ≡ PhaseRead.Is ph
+    → lastRead (getD xs 2 0) ≡ LastRead.Is la → againRead (getD xs 3 0) ≡ AgainRead.Is ag
+    → announcedRead (getD xs 4 0) ≡ AnnouncedRead.Is an → getD xs 5 0 ≤ 4294967295
+    → Is (machine mo ph la ag an (getD xs 5 0) (getD xs 6 0)) ≡ machineOf xs
 unfolding machineOf strays
-row-stands xs mo ph la ag f₀ f₁ f₂ f₃ g h =
+row-stands xs mo ph la ag an f₀ f₁ f₂ f₃ f₄ h =
     let h₀ = mode-stands (getD xs 0 0) _ refl mo f₀ in
     let h₁ = phase-stands (getD xs 1 0) _ refl ph f₁ in
     let h₂ = last-stands (getD xs 2 0) _ refl la f₂ in
     let h₃ = again-stands (getD xs 3 0) _ refl ag f₃ in
-    simp (h₀ .0, h₁ .0, h₂ .0, h₃ .0, le-ltb 1 (getD xs 4 0) g, le-ltb 4294967295 (getD xs 5 0) h, h₀ .1, h₁ .1, h₂ .1, h₃ .1)
+    let h₄ = announced-stands (getD xs 4 0) _ refl an f₄ in
+    simp (h₀ .0, h₁ .0, h₂ .0, h₃ .0, h₄ .0, le-ltb 4294967295 (getD xs 5 0) h, h₀ .1, h₁ .1, h₂ .1, h₃ .1, h₄ .1)
 
 pub row-is : (m : Machine) (a b c d : ℕ) → a ≡ modeNumber (m .mode) → b ≡ phaseNumber (m .phase) → c ≡ lastNumber (m .last) → d ≡ againNumber (m .again)
     → a ∷ b ∷ c ∷ d ∷ truth (m .announced) ∷ m .taken ∷ m .place ∷ [] ≡ rowOf m

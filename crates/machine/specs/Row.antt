@@ -20,6 +20,7 @@ use Rattle.machine.specs.declared.row.ModeRead.{ModeRead}
 use Rattle.machine.specs.declared.row.PhaseRead.{PhaseRead}
 use Rattle.machine.specs.declared.row.LastRead.{LastRead}
 use Rattle.machine.specs.declared.row.AgainRead.{AgainRead}
+use Rattle.machine.specs.declared.row.AnnouncedRead.{AnnouncedRead}
 use Rattle.machine.specs.declared.row.RowRead.{RowRead}
 use Rattle.machine.specs.declared.row.RowRead.the-variants.{Is, Stray}
 use Rattle.machine.specs.Events.{asCounter}
@@ -139,3 +140,6 @@ lastRead n = pick (noLast n) LastRead.Stray (LastRead.Is (lastOf n))
 
 abbrev pub againRead : ℕ → AgainRead
 againRead n = pick (ltb 2 n) AgainRead.Stray (AgainRead.Is (againOf n))
+
+abbrev pub announcedRead : ℕ → AnnouncedRead
+announcedRead n = pick (ltb 1 n) AnnouncedRead.Stray (AnnouncedRead.Is (eqb n 1))

@@ -2,7 +2,7 @@
 // IgnoreRest; the last counter or 255 for none; 0, 1, 2 for Barred, Open and Spent; whether the stream was announced, 0 or 1; the packets
 // taken so far; and the next free place of the log.
 ghost use mathlib.Core.Path.{_≡_};
-ghost use Rattle.machine.specs.Row.{modeRead, phaseRead, lastRead, againRead, modeNumber, phaseNumber, lastNumber, againNumber, machineOf, rowOf};
+ghost use Rattle.machine.specs.Row.{modeRead, phaseRead, lastRead, againRead, announcedRead, modeNumber, phaseNumber, lastNumber, againNumber, machineOf, rowOf};
 use crate::Last;
 use crate::Machine;
 use crate::Mode;
@@ -35,6 +35,11 @@ pub enum LastRead {
 
 pub enum AgainRead {
     Is(Repeat),
+    Stray,
+}
+
+pub enum AnnouncedRead {
+    Is(bool),
     Stray,
 }
 
@@ -79,6 +84,16 @@ fn again_of(n: u64) -> AgainRead
         1 => AgainRead::Is(Repeat::Open),
         2 => AgainRead::Is(Repeat::Spent),
         _ => AgainRead::Stray,
+    }
+}
+
+fn announced_of(n: u64) -> AnnouncedRead
+    ensures { λ r. ⌜ r ≡ announcedRead n ⌝ }
+{
+    match n {
+        0 => AnnouncedRead::Is(false),
+        1 => AnnouncedRead::Is(true),
+        _ => AnnouncedRead::Stray,
     }
 }
 
@@ -142,9 +157,9 @@ pub fn read(row: &[u64; 7]) -> RowRead
     let AgainRead::Is(ag) = again_of(again) else {
         return RowRead::Stray;
     };
-    if 1 < announced {
+    let AnnouncedRead::Is(an) = announced_of(announced) else {
         return RowRead::Stray;
-    }
+    };
     if 4294967295 < taken {
         return RowRead::Stray;
     }
@@ -153,7 +168,7 @@ pub fn read(row: &[u64; 7]) -> RowRead
         phase: ph,
         last: la,
         again: ag,
-        announced: announced == 1,
+        announced: an,
         taken: taken as u32,
         place: place as usize,
     })
