@@ -4,77 +4,25 @@
 use mathlib.Core.Path.{_≡_, refl, sym, ap, ap₂, _∙_}
 use mathlib.Core.Bool.{Bool, true, false, _||_}
 use mathlib.Core.List.{List, [], _∷_, _++_}
-use Prim.Native.Nat.{ℕ, suc, _+_}
-use native.Mathlib.Omega.{arith}
-use lib.Dec.{eqb}
-use lib.ListN.{length}
+use Prim.Native.Nat.{ℕ, suc}
 use Rattle.bits.specs.Answer.{pick}
 use Rattle.bits.proofs.Bools.{false-true}
-use Rattle.packet.specs.Packet.{startFlag, payloadThere}
+use Rattle.packet.specs.Packet.{startFlag}
 use Rattle.log.specs.declared.Event.{Event}
-use Rattle.log.specs.Entry.{event, startStream}
+use Rattle.log.specs.Entry.{startStream}
 use Rattle.machine.specs.declared.Mode.{Mode}
 use Rattle.machine.specs.declared.Mode.the-variants.{Standard}
 use Rattle.machine.specs.declared.Phase.{Phase}
 use Rattle.machine.specs.declared.Phase.the-variants.{Begin, Started, IgnoreRest}
 use Rattle.machine.specs.declared.Continuity.{Continuity}
 use Rattle.machine.specs.declared.Continuity.the-variants.{GoesOn, Repeats, Breaks}
-use Rattle.machine.specs.Events.{State, headAccepted, eventAlone, continuity, calls, due, announces, announcement, begun, continued}
+use Rattle.machine.specs.Events.{State, eventAlone, continuity, calls, announces, announcement, continued}
 use Rattle.machine.specs.Events.{eventsBy, eventsOf, next, run}
-use Rattle.machine.specs.Run.{startStreams}
 use Rattle.machine.specs.History.{first, standardly, stateAt, starts, firstCall, firstCalled, StartsFirst}
-use Rattle.machine.proofs.Laws.{or-false}
-use Rattle.machine.proofs.Theorems.{happened, events-are, phaseThen, phase-then}
+use Rattle.machine.proofs.Theorems.{happened, events-are, starts-join, event-starts, phaseThen, phase-then}
 use Rattle.machine.proofs.History.{mode-stays, mode-at, standard-is}
 
 -- ---- which packets give StartStream
-
-starts-append : (a b : List Event) → starts (a ++ b) ≡ starts a ++ starts b
-unfolding starts
-starts-append [] b = refl
-starts-append (x ∷ a) b = rw (starts-append a b) (sym (go (eqb (x .kind) startStream)))
-  where
-    go : (t : Bool) → pick t (x .index ∷ starts a) (starts a) ++ starts b ≡ pick t (x .index ∷ (starts a ++ starts b)) (starts a ++ starts b)
-    go true = refl
-    go false = refl
-
-none-begun : (i : ℕ) (p : List ℕ) → starts (begun i p) ≡ []
-unfolding begun starts
-none-begun i p = go (payloadThere p) (headAccepted _) _ _
-  where
-    go : (a b : Bool) (x y : ℕ) → starts (pick a (pick b (event 2 i x y ∷ []) []) []) ≡ []
-    go true true x y = refl
-    go true false x y = refl
-    go false b x y = refl
-
-none-continued : (ph : Phase) (i : ℕ) (p : List ℕ) → starts (continued ph i p) ≡ []
-unfolding continued starts
-none-continued Begin i p = refl
-none-continued Started i p = go (payloadThere p) _ _
-  where
-    go : (a : Bool) (x y : ℕ) → starts (pick a (event 3 i x y ∷ []) []) ≡ []
-    go true x y = refl
-    go false x y = refl
-none-continued IgnoreRest i p = refl
-
-none-happened : (c : Continuity) (s : Bool) (ph : Phase) (i : ℕ) (p : List ℕ) → starts (happened c s ph i p) ≡ []
-unfolding starts
-none-happened GoesOn true Begin i p = none-begun i p
-none-happened GoesOn true Started i p = none-begun i p
-none-happened GoesOn true IgnoreRest i p = none-begun i p
-none-happened GoesOn false ph i p = none-continued ph i p
-none-happened Repeats s ph i p = refl
-none-happened Breaks true ph i p = none-begun i p
-none-happened Breaks false ph i p = refl
-
--- in both modes: those that announce the stream
-pub event-starts : (i : ℕ) (s : State) (p : List ℕ) → starts (eventsOf i s p) ≡ pick (announces s p) (i ∷ []) []
-unfolding announcement starts
-event-starts i s p = rw (events-are i s p) (go (announces s p) _ (none-happened (continuity s p) (startFlag p) (s .phase) i p))
-  where
-    go : (b : Bool) (es : List Event) → starts es ≡ [] → starts (announcement b i ++ es) ≡ pick b (i ∷ []) []
-    go true es h = ap (λ (x : List ℕ). i ∷ x) h
-    go false es h = h
 
 starts-by : (i : ℕ) (s : State) (p : List ℕ) (b : Bool) → announces s p ≡ b → starts (eventsOf i s p) ≡ pick b (i ∷ []) []
 starts-by i s p b h = event-starts i s p ∙ ap (λ (x : Bool). pick x (i ∷ []) []) h
@@ -107,7 +55,7 @@ pub announced-silent : (ps : List (List ℕ)) (i : ℕ) (s : State) → s .mode 
 unfolding run starts
 announced-silent [] i s m a = refl
 announced-silent (p ∷ ps) i s m a =
-    starts-append (eventsOf i s p) _
+    starts-join (eventsOf i s p) _
     ∙ ap₂ (λ (x y : List ℕ). x ++ y) (starts-by i s p false (silent s p m a))
     (announced-silent ps (suc i) (next s p) (mode-stays s p ∙ m) (next-told s p m false (silent s p m a) ∙ rw a))
 
@@ -116,7 +64,7 @@ announced-next : (p : List ℕ) (ps : List (List ℕ)) (i : ℕ) (s : State) (la
     → (next s p .announced ≡ false → starts (run (suc i) (next s p) ps) ≡ later)
     → starts (run i s (p ∷ ps)) ≡ pick (calls (continuity s p) (startFlag p)) (i ∷ []) later
 unfolding run
-announced-next p ps i s later m a h = starts-append (eventsOf i s p) _ ∙ go (call s p m) refl
+announced-next p ps i s later m a h = starts-join (eventsOf i s p) _ ∙ go (call s p m) refl
   where
     go : (b : Bool) → call s p m ≡ b → starts (eventsOf i s p) ++ starts (run (suc i) (next s p) ps) ≡ pick b (i ∷ []) later
     go true k =

@@ -3,7 +3,7 @@
 use crate::input::Failure;
 use crate::options::Options;
 use crate::table::{standard_output, Cell, Column, Form, Table};
-use clomaverift::{Error, Event, EventKind, Machine, Mode, Packet, Pid};
+use clomaverift::{EventKind, Mode, Packet, Pid};
 use std::io::Write;
 
 const fn columns_with(event: Column) -> [Column; 5] {
@@ -46,14 +46,6 @@ fn taken(packet: &Packet<'_>, chosen: Option<Pid>) -> bool {
         && !packet.transport_scrambling_control().is_scrambled()
 }
 
-/// The events of a packet.
-fn events_of(machine: &mut Machine, packet: &[u8]) -> Result<Vec<Event>, Error> {
-    let mut log = [0; LOG];
-    machine.rewind();
-    machine.step(packet, &mut log)?;
-    machine.events(&log).collect()
-}
-
 pub fn run(options: Options) -> Result<(), Failure> {
     let mut machines = vec![options.machine(); Pid::PID_COUNT];
     let mut table = Table::begin(standard_output(), options.form, columns(options.mode), false)?;
@@ -64,9 +56,15 @@ pub fn run(options: Options) -> Result<(), Failure> {
             _ => return Ok(()),
         };
         let refused = |error| Failure::Said(format!("packet {index}: {error}")); // of an archive that is newer than the crate
-        let events = events_of(&mut machines[usize::from(packet.pid())], bytes).map_err(refused)?;
-        for (at, event) in events.iter().enumerate() {
-            let word = word(event.kind, events.get(at + 1).map(|next| next.kind));
+        let machine = &mut machines[usize::from(packet.pid())];
+        let mut log = [0; LOG];
+        machine.rewind();
+        machine.step(bytes, &mut log).map_err(refused)?;
+        let mut events = machine.events(&log).peekable();
+        while let Some(event) = events.next() {
+            let event = event.map_err(refused)?;
+            let next = events.peek().and_then(|next| next.ok());
+            let word = word(event.kind, next.map(|next| next.kind));
             let (offset, length) = (Cell::Number(event.place.into()), Cell::Number(event.length.into()));
             table.row(&[Cell::Number(index), Cell::Pid(packet.pid()), Cell::Word(word), offset, length])?;
         }
