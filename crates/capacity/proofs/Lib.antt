@@ -5,7 +5,6 @@ pub mod Carried
 pub mod Written
 pub mod Least
 pub mod Accepted
-pub mod Slices
 pub mod Gathered
 pub mod Delivered
 pub mod Calls

@@ -13,6 +13,7 @@ use lib.Dec.{ltb}
 use borrow.Author.Tests.{eq-eqb, ltb-true, ltb-false, le-ltb}
 use Rattle.bits.specs.Answer.{Answer, answer, pick, Check, _gives_, unless, All}
 use Rattle.bits.specs.Numbers.{done, badField, tooLong, noRoom}
+use Rattle.bits.specs.Pack.{flat}
 use Rattle.bits.proofs.Checks.{accepted-by}
 use Rattle.pes.specs.Stream.{parsedId}
 use Rattle.log.specs.declared.Event.{Event}
@@ -24,6 +25,7 @@ use Rattle.machine.specs.History.{first}
 use Rattle.machine.specs.Step.{stateOf, Stands}
 use Rattle.machine.specs.Run.{reportOf, ranLog, IsPacket, Logged}
 use Rattle.machine.proofs.Theorems.{run-logged}
+use Rattle.machine.proofs.Slices.{flat-length, packets-flat}
 use Rattle.gather.specs.Gather.{readOf, heldBytes}
 use Rattle.units.specs.Units.{Standing, packetOf, gatherAll, answers, readAt, bytesAt, lastEvent, Inside, GatheringStands, Taken, Open}
 use Rattle.gather.proofs.Laws.{read-done}
@@ -31,7 +33,7 @@ use Rattle.units.proofs.Theorems.{packet-there}
 use Rattle.writer.specs.declared.Route.{Route}
 use Rattle.writer.specs.declared.Unit.{Unit}
 use Rattle.writer.specs.Unit.{dataOf, countOf}
-use Rattle.writer.specs.Packets.{packetsOf, flat}
+use Rattle.writer.specs.Packets.{packetsOf}
 use Rattle.writer.specs.Writer.{allOf, routeTests, unitTests, sizeTests, notWritten, writeOf, outputOf}
 use Rattle.capacity.specs.Reads.{segment, segments, Delivers}
 use Rattle.capacity.specs.Accepted.{PacketsRead, HeaderRead}
@@ -44,7 +46,6 @@ use Rattle.capacity.proofs.Written.{written-count, all-packets, unit-ru
 use Rattle.capacity.proofs.Gathered.{part-inside, continues-inside, long-enough}
 use Rattle.capacity.proofs.Calls.{events-read, packet-at, bytes-shifted, numbers-shifted, calls-shifted, shiftedSegment, segments-shifted}
 use Rattle.capacity.proofs.Calls.{last-past, last-inside}
-use Rattle.capacity.proofs.Slices.{flat-length, packets-flat}
 use Rattle.capacity.proofs.Delivered.{permitted-written, permitted-events, permitted-accepted, permitted-header}
 use Rattle.capacity.proofs.Delivered.{permitted-gathered}
 use Rattle.capacity.proofs.Least.{least-segment, segment-within}

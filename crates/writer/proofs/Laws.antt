@@ -14,7 +14,7 @@ use lib.Dec.{leb, ltb}
 use borrow.Author.Needs.{needs}
 use borrow.Author.Tests.{lt-ltb, le-ltb, lt-leb, le-leb, ltb-true, ltb-false, leb-true, leb-false, ne-eqb}
 use Rattle.bits.specs.Answer.{Answer, answer, pick, truth, placedAt, Check}
-use Rattle.bits.specs.Pack.{Part, joined, bytesOf, number}
+use Rattle.bits.specs.Pack.{Part, joined, bytesOf, number, flat}
 use Rattle.bits.proofs.Bools.{both}
 use Rattle.bits.proofs.Checks.{Off, none-holds, first-holds, accepted-by}
 use Rattle.bits.proofs.Packs.{bytesOf-more, written, length-bytesOf}
@@ -38,7 +38,7 @@ use Rattle.writer.specs.declared.Unit.{Unit}
 use Rattle.writer.specs.Unit.{Field, absent, holds, rateField, byteField, crcField, timesFlags, escrFlag, fieldFlag, timesBytes}
 use Rattle.writer.specs.Unit.{dataOf, statedLength, countFor, countOf}
 use Rattle.writer.specs.Packets.{headTable, timesImage, escrImage, image, fieldsImage, headerImage}
-use Rattle.writer.specs.Packets.{packetTable, stuffing, carrier, carried, packetsOf, flat, Placed}
+use Rattle.writer.specs.Packets.{packetTable, stuffing, carrier, carried, packetsOf, Placed}
 use Rattle.writer.specs.Writer.{allOf, within, timesFit, escrFits, fits, routeTests, unitTests, sizeTests, notWritten}
 use Rattle.writer.specs.Writer.{writeOf, outputOf}
 

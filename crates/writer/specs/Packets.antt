@@ -79,11 +79,6 @@ carried (suc k) start pid c xs = carrier start pid c (take 184 xs) ∷ carried k
 unfoldable pub packetsOf : Route → Unit → List ℕ → List (List ℕ)
 packetsOf r u payload = carried (countOf u (length payload)) 1 (r .pid) (r .counter) (headerImage u (length payload) ++ payload)
 
--- packets as bytes, one after another
-unfoldable pub flat : List (List ℕ) → List ℕ
-flat [] = []
-flat (p ∷ ps) = p ++ flat ps
-
 -- ---- cited by private functions alone
 
 -- bytes placed from a place on, and the place after them; there are so many at most

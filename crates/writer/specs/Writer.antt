@@ -6,6 +6,7 @@ use lib.ListN.{length, drop}
 use lib.Dec.{eqb, leb, ltb}
 use Rattle.bits.specs.Answer.{Answer, answer, pick, Check, _gives_, unless}
 use Rattle.bits.specs.Numbers.{done, badField, tooLong, noRoom}
+use Rattle.bits.specs.Pack.{flat}
 use Rattle.pes.specs.Stream.{parsedId}
 use Rattle.writer.specs.declared.Route.{Route}
 use Rattle.writer.specs.declared.Times.{Times}
@@ -14,7 +15,7 @@ use Rattle.writer.specs.declared.Escr.{Escr}
 use Rattle.writer.specs.declared.Unit.{Unit}
 use Rattle.writer.specs.declared.Written.{Written}
 use Rattle.writer.specs.Unit.{Field, absent, holds, rateField, byteField, statedLength, countOf}
-use Rattle.writer.specs.Packets.{packetsOf, flat}
+use Rattle.writer.specs.Packets.{packetsOf}
 
 abbrev pub givenWritten : Written → Answer
 givenWritten (Written.Done n) = answer done (n ∷ [])

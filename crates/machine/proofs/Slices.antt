@@ -7,10 +7,8 @@ use native.Mathlib.Omega.{arith}
 use lib.ListN.{length, length-append}
 use lib.Seq.{take-at, drop-at}
 use Rattle.bits.specs.Answer.{All}
-use Rattle.machine.specs.Run.{chunk}
-use Rattle.machine.specs.Run.{packetsIn as packetsIn}
-use Rattle.writer.specs.Packets.{flat}
-use Rattle.machine.specs.Run.{IsPacket}
+use Rattle.bits.specs.Pack.{flat}
+use Rattle.machine.specs.Run.{chunk, packetsIn, IsPacket}
 
 pub flat-length : (ps : List (List ℕ)) → All IsPacket ps → length (flat ps) ≡ 188 * length ps
 unfolding flat
