@@ -1,2 +1,3 @@
 pub mod Own
 pub mod Object
+pub mod Sizes

@@ -21,7 +21,7 @@ pub const LOG: usize = 48;
 
 // ---- lines
 
-fn number(v: Verdict) {
+pub fn number(v: Verdict) {
     match v {
         Verdict::Done => show::number(0),
         Verdict::WrongLength => show::number(1),

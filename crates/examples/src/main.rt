@@ -3,6 +3,7 @@
 mod gathering;
 mod header_object;
 mod headers;
+mod log_size;
 mod machines;
 mod own_state;
 mod packets;
@@ -17,4 +18,5 @@ fn main() {
     machines::run(&stream);
     repeats::run();
     gathering::run(&stream);
+    log_size::run();
 }
