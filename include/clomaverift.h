@@ -544,6 +544,10 @@ enum {
    slice of bytes, of which an event takes 8. A packet gives at most two events, three in mode 1, so that 24 free bytes are enough for
    one packet. Once its events are read the log can be used again: set PLACE to 0. */
 
+/* How long a log must be: with 8 * (packets + starts) free bytes 15 never comes, whatever the packets are, from every state of mode 0,
+   and in mode 1 from the fresh state and once ANNOUNCED is 1. From any other state of mode 1 it takes 8 bytes more. Who does not know
+   how many packets are starts counts every packet as one. */
+
 /* The kinds of events. */
 enum {
     CMV_START_STREAM = 1, /* in mode 0 the first start, unless a break came before it; in mode 1 the first start or break */

@@ -9,7 +9,8 @@
 //! # Which part to take
 //!
 //! - [`Demux`]: a recording of many PIDs in, units with their times and payload, clock references and continuity errors out.
-//! - [`Machine`], [`Events`] and [`Gathering`]: the same for one PID, step by step, with no memory but the caller's.
+//! - [`Machine`], [`Events`] and [`Gathering`]: the same for one PID, step by step, with no memory but the caller's; [`log_bytes`] says how
+//!   much of it a log needs.
 //! - [`Packets`], [`Packet`], [`PesHeader`], [`Timestamp`] and what they give: single packets and headers.
 //! - [`Unit`] and [`write()`]: a unit with its payload as packets.
 //!
@@ -124,7 +125,7 @@ mod writer;
 pub use demux::{Demux, Found, FoundUnit, Mark, Marked};
 pub use error::Error;
 pub use gather::Gathering;
-pub use machine::{Event, EventKind, Events, Machine, Mode, Phase, Ran, Repeat};
+pub use machine::{log_bytes, Event, EventKind, Events, Machine, Mode, Phase, Ran, Repeat};
 pub use packet::{
     AdaptationControl, AdaptationField, AdaptationFieldExtension, ClockRef, Compared, ContinuityCounter, Packet,
     PacketFields, Packets, Pid, SeamlessSplice, TransportScramblingControl,

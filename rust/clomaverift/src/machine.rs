@@ -95,10 +95,38 @@ numbered!(Mode: Crate, Standard);
 numbered!(Repeat: Barred, Open, Spent);
 numbered!(Phase: Begin, Started, IgnoreRest);
 
+/// The bytes of a log that is never full: 8 for each packet, and 8 more for each packet with the start flag. With so many free bytes
+/// [`Machine::step`] and [`Machine::run`] never answer [`Error::LogFull`], whatever the packets are. That is proved, and so is that there are
+/// packets which need all of them.
+///
+/// It holds from every state in [`Mode::Crate`]. In [`Mode::Standard`] it holds from [`Machine::standard`] on, and once the stream was
+/// [announced](Machine::announced); a machine that has taken packets and announced nothing yet may need 8 bytes more.
+///
+/// If it is not known how many packets have the start flag, count every packet as one. A number too large for `usize` becomes the largest.
+///
+/// ```
+/// use clomaverift::{log_bytes, Machine, Packet, Packets, Unit};
+///
+/// let bytes = Unit::new(0x100, 0xE0).pts(90_000).packets(&[0; 1_000])?; // a recording of one PID
+/// let packets = bytes.len() / Packet::SIZE;
+/// let starts = Packets::new(&bytes).flatten().filter(|packet| packet.payload_unit_start_indicator()).count();
+///
+/// let mut log = vec![0; log_bytes(packets, starts)];
+/// let ran = Machine::new().run(&bytes, &mut log)?;
+/// assert_eq!((packets, starts, log.len()), (6, 1, 56));
+/// assert_eq!((ran.packets, ran.ended), (6, None));
+/// # Ok::<(), clomaverift::Error>(())
+/// ```
+#[must_use]
+#[inline]
+pub const fn log_bytes(packets: usize, starts: usize) -> usize {
+    packets.saturating_add(starts).saturating_mul(ENTRY)
+}
+
 /// The event machine of one PID's packets: what mpeg2ts-reader's `PesPacketFilter` tells its consumer is written to a log here.
 ///
 /// The caller keeps the log: any slice, 8 bytes for each event. A packet has at most two events, and three in [`Mode::Standard`], so 24
-/// bytes are enough for it.
+/// bytes are enough for it; [`log_bytes`] says how many are enough for many packets.
 ///
 /// ```
 /// use clomaverift::{EventKind, Machine};
@@ -654,6 +682,43 @@ mod tests {
         let mut machine = kept(Phase::Started, ContinuityCounter::new(15).ok(), u32::MAX - 1, 0);
         assert_eq!(machine.run(&bytes, &mut log), Ok(Ran { packets: 1, ended: Some(Error::IndexFull) }));
         assert_eq!(machine.taken(), u32::MAX);
+    }
+
+    /// Packets that need all of a log: so many have the start flag, and the others follow; the counters run from this one on.
+    fn longest(starts: usize, packets: usize, counter: usize) -> Vec<u8> {
+        (0..packets).flat_map(|nth| packet(nth < starts, ((counter + nth) % 16) as u8)).collect()
+    }
+
+    /// A log of so many bytes is enough for these packets, and one of an entry less is not.
+    fn needs(machine: Machine, packets: &[u8], bytes: usize) {
+        let count = (packets.len() / 188) as u32;
+        let (mut enough, mut log) = (machine, vec![0; bytes]);
+        assert_eq!(enough.run(packets, &mut log), Ok(Ran { packets: count, ended: None }));
+        assert_eq!((enough.place(), enough.events(&log).count()), (bytes, bytes / ENTRY));
+        for fewer in [1, ENTRY] {
+            let (mut short, mut log) = (machine, vec![0; bytes - fewer]);
+            let ended = Some(Error::LogFull);
+            assert_eq!(short.run(packets, &mut log), Ok(Ran { packets: count - 1, ended }), "{fewer} bytes fewer");
+        }
+    }
+
+    #[test]
+    fn packets_that_need_every_byte_of_the_log() {
+        let mut waiting = Machine::standard();
+        assert_eq!(waiting.step(&packet(false, 5), &mut []), Ok(()));
+        for (starts, packets) in [(1, 1), (1, 7), (5, 5), (1_000, 3_000)] {
+            let bytes = log_bytes(packets, starts);
+            needs(Machine::new(), &longest(starts, packets, 0), bytes);
+            needs(Machine::standard(), &longest(starts, packets, 0), bytes);
+            needs(waiting, &longest(starts, packets, 7), bytes + ENTRY);
+        }
+    }
+
+    #[test]
+    fn the_bytes_of_a_log() {
+        assert_eq!([log_bytes(0, 0), log_bytes(1, 0), log_bytes(3_000, 1_000)], [0, 8, 32_000]);
+        assert_eq!(log_bytes(u32::MAX as usize, u32::MAX as usize), 68_719_476_720);
+        assert_eq!([log_bytes(usize::MAX, 1), log_bytes(usize::MAX / 8, 1)], [usize::MAX; 2]);
     }
 
     #[test]
