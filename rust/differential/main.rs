@@ -45,6 +45,7 @@ mod host_writer;
 mod image;
 mod kept;
 mod lent;
+mod log_size;
 mod machine;
 mod machine_stream;
 mod module;
@@ -74,7 +75,7 @@ use std::time::Instant;
 use tally::{grouped, report, total, Tally};
 
 /// The modules, in the order of their codes.
-const MODULES: [Module; 10] = [
+const MODULES: [Module; 11] = [
     timestamp::MODULE,
     control::MODULE,
     packet::MODULE,
@@ -83,12 +84,13 @@ const MODULES: [Module; 10] = [
     contents::MODULE,
     machine::MODULE,
     standard::MODULE,
+    log_size::MODULE,
     writer::MODULE,
     gather::MODULE,
 ];
 
 /// The modules that take about half of the time.
-const FIRST_HALF: [&str; 3] = ["contents", "machine", "gather"];
+const FIRST_HALF: [&str; 4] = ["contents", "machine", "log_size", "gather"];
 
 const SEED: u64 = 1;
 const USAGE: &str =

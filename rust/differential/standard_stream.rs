@@ -7,6 +7,7 @@ use crate::answer::Answer;
 use crate::consumer::{Oracle, SIZE};
 use crate::event::{self, decoded, Event, ENTRY};
 use crate::host_machine::{self, State, MOST_TAKEN, NONE, STANDARD};
+use crate::log_size::most_events;
 use crate::machine_stream::{longest_log, make_packet, random_taken, Told, Walk};
 use crate::rng::Rng;
 use crate::rules::{counter, has_payload_flag, has_start_flag};
@@ -281,7 +282,7 @@ impl Announcement {
         let (mut state, mut ran) = (State { place: 0, ..first }, [0; 2]);
         self.packets.clear();
         self.packets.extend_from_slice(packets);
-        self.log.resize(ENTRY * most_events(first, packets), 0);
+        self.log.resize(ENTRY * most_from(first, packets), 0);
         let word = host_machine::run(&mut state, &mut self.packets, &mut self.log, &mut ran);
         let all = word == 0 && ran == [(packets.len() / SIZE) as u64, 0];
         events_of(self.log.get(..state.place).filter(|_| all)?).collect()
@@ -297,13 +298,10 @@ fn is_fresh(state: State) -> bool {
     State { taken: 0, place: 0, ..state }.numbers() == State::FIRST_STANDARD.numbers()
 }
 
-/// The bound: an event for each packet, one more for each with the start flag, and one for StartStream. The last does not count where
-/// the stream was announced, nor from a fresh state: there StartStream comes with a start that ends no unit, or after a packet that has no
-/// event.
-fn most_events(first: State, packets: &[u8]) -> usize {
-    let packets = packets.chunks_exact(SIZE);
-    let starts = packets.clone().filter(|packet| has_start_flag(packet)).count();
-    packets.len() + starts + usize::from(!is_fresh(first) && first.announced == 0)
+/// The bound, with one for StartStream. That does not count where the stream was announced, nor from a fresh state: there StartStream comes
+/// with a start that ends no unit, or after a packet that has no event.
+fn most_from(first: State, packets: &[u8]) -> usize {
+    most_events(packets.chunks_exact(SIZE)) + usize::from(!is_fresh(first) && first.announced == 0)
 }
 
 /// Whether the first event is StartStream, with the packet of this index; or there is no event, where there is no such packet.
