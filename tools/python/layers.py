@@ -37,6 +37,7 @@ WORDS = {
     "gather": ["the bytes of a unit,", "event by event"],
     "host_streams": ["what keeps the state", "of a stream"],
     "in_place": ["the steps over", "a lent state"],
+    "bounds": ["how big", "a log must be"],
     "units": ["the bytes of a unit,", "over any run"],
     "capacity": ["what is written reads back,", "in the fewest packets"],
     "examples": ["worked examples"],
@@ -48,7 +49,7 @@ KINDS = {
     "theorems": ("theorems alone", "#f0e8fa", "#9274b8", "#2e2440", "#a58acb"),
     "program": ("a program", "#fdf0d8", "#b8904a", "#3a2e18", "#c29b57"),
 }
-WIDTH, MARGIN = 900, 20  # of the picture
+WIDTH, MARGIN = 900, 20  # of the picture: it is wider where a layer is
 BOX, TALL, LANE, GAP = 176, 58, 12, 14  # the boxes, the lines that pass a layer, and what is between them
 RISE = 114  # from a layer to the next
 PORT = 20  # between the ends of lines at a box, at most
@@ -79,18 +80,45 @@ def depths():
     return found
 
 
-def laid_in_layers():
+def laid_in_layers(levels):
     """The layers, lowest first, and the paths of the edges, each through every layer between its ends. Where a path only passes a layer
     it has a place of its own there, a pair; a box is a name."""
-    depth = depths()
-    layers = [[crate for crate in crates() if depth[crate] == level] for level in range(max(depth.values()) + 1)]
+    layers = [[crate for crate in crates() if levels[crate] == level] for level in range(max(levels.values()) + 1)]
     paths = []
     for upper, lower in edges():
-        between = [((upper, lower), level) for level in range(depth[lower] + 1, depth[upper])]
+        between = [((upper, lower), level) for level in range(levels[lower] + 1, levels[upper])]
         for place in between:
             layers[place[1]].append(place)
         paths.append([lower, *between, upper])
     return layers, paths
+
+
+def room(node):
+    return BOX if isinstance(node, str) else LANE
+
+
+def width_of(layers):
+    return max(WIDTH, *(2 * MARGIN + sum(map(room, layer)) + GAP * (len(layer) - 1) for layer in layers))
+
+
+def raised(levels):
+    """The levels with one crate higher, which is still below all that is built on it, for each crate and each such level."""
+    for crate, level in levels.items():
+        above = [levels[one] for one, built_on in crates().items() if crate in built_on]
+        for higher in range(level + 1, min(above, default=max(levels.values()) + 1)):
+            yield levels | {crate: higher}
+
+
+def narrow_levels():
+    """The layer of each crate: the lowest that can be or, where that makes the picture narrower, a higher one."""
+
+    def width(levels):
+        return width_of(laid_in_layers(levels)[0])
+
+    levels = depths()
+    while width(better := min(raised(levels), key=width)) < width(levels):
+        levels = better
+    return levels
 
 
 # ---- the order within the layers
@@ -135,11 +163,7 @@ def ordered(layers, paths):
 # ---- places
 
 
-def room(node):
-    return BOX if isinstance(node, str) else LANE
-
-
-def spread(layer, wanted):
+def spread(layer, wanted, width):
     """Places in the layer's order, as near as can be to those wanted: what would overlap is moved together, by the least squares."""
     offset, groups = 0, []
     for number, node in enumerate(layer):
@@ -151,11 +175,11 @@ def spread(layer, wanted):
             other = groups[-1]
             groups[-1] = [(other[0] * other[1] + mean * count) / (other[1] + count), other[1] + count, other[2] + nodes]
     low = MARGIN + room(layer[0]) / 2
-    high = WIDTH - MARGIN - room(layer[-1]) / 2 - offset
+    high = width - MARGIN - room(layer[-1]) / 2 - offset
     return {node: min(max(mean, low), high) + place for mean, _, nodes in groups for node, place in nodes}
 
 
-def placed(layers, paths):
+def placed(layers, paths, width):
     """How far from the left the middle of each box and of each passing line is: near to what it is joined with."""
     joined = {node: [] for layer in layers for node in layer}
     for low, high in (pair for path in paths for pair in zip(path, path[1:])):
@@ -163,10 +187,10 @@ def placed(layers, paths):
         joined[high].append(low)
     at = {}
     for layer in layers:
-        at |= spread(layer, {node: WIDTH * (place + 1) / (len(layer) + 1) for place, node in enumerate(layer)})
+        at |= spread(layer, {node: width * (place + 1) / (len(layer) + 1) for place, node in enumerate(layer)}, width)
     for _ in range(60):
         for layer in layers:
-            at |= spread(layer, {node: sum(at[one] for one in joined[node]) / len(joined[node]) for node in layer})
+            at |= spread(layer, {node: sum(at[one] for one in joined[node]) / len(joined[node]) for node in layer}, width)
     return at
 
 
@@ -235,18 +259,19 @@ def style():
 
 
 def picture():
-    layers, paths = laid_in_layers()
+    level = narrow_levels()
+    layers, paths = laid_in_layers(level)
     layers = ordered(layers, paths)
-    at = placed(layers, paths)
+    width = width_of(layers)
+    at = placed(layers, paths, width)
     end = ends(paths, at)
     height = top_of(layers, 0) + TALL + MARGIN + 24
-    level = depths()
     parts = [
-        f'<svg xmlns="http://www.w3.org/2000/svg" width="{WIDTH}" height="{height}" viewBox="0 0 {WIDTH} {height}" role="img">',
+        f'<svg xmlns="http://www.w3.org/2000/svg" width="{width}" height="{height}" viewBox="0 0 {width} {height}" role="img">',
         "<title>The crates in layers</title>",
         "<!-- Made by tools/layers from crates.txt: not to be edited. -->",
         f"<style>\n{style()}</style>",
-        f'<rect class="ground" x="0.5" y="0.5" width="{WIDTH - 1}" height="{height - 1}" rx="8"/>',
+        f'<rect class="ground" x="0.5" y="0.5" width="{width - 1}" height="{height - 1}" rx="8"/>',
         *(line(path, level[path[0]], layers, at, end) for path in paths),
         *(box(crate, at[crate], top_of(layers, level[crate])) for crate in crates()),
         legend(height - 26),
