@@ -11,7 +11,7 @@ use crate::machine::{every_state, oracle_in, packet, Call, Ran, Runs, HEAD, NO_H
 use crate::machine_stream::{longest_log, Told};
 use crate::module::{Module, Plan};
 use crate::rng::Rng;
-use crate::rules::has_start_flag;
+use crate::rules::{has_start_flag, most_events};
 use crate::tally::{hex, Tally};
 use mpeg2ts_reader::packet::Packet;
 use std::collections::BTreeMap;
@@ -29,11 +29,6 @@ fn compare(plan: &Plan) -> Vec<Tally> {
     tallies.extend(compare_reached("standard mode, p + s + 1 reached", after_5, 1, &mut plan.rng(4)));
     tallies.extend(compare_greatest(&mut plan.rng(5)));
     tallies
-}
-
-/// p + s.
-pub fn most_events<'a>(packets: impl Iterator<Item = &'a [u8]>) -> usize {
-    packets.map(|packet| 1 + usize::from(has_start_flag(packet))).sum()
 }
 
 /// How many calls the oracle makes, where it can be brought to the state.

@@ -47,6 +47,11 @@ pub fn accepted(phase: u64, continuous: bool, announces: bool, packet: &[u8]) ->
     Happened { events, phase, last: counter(packet), again: has_payload_flag(packet).into() }
 }
 
+/// The most events of packets, but for a StartStream beside others, which the standard mode may give: one for each, and one for each start.
+pub fn most_events<'a>(packets: impl Iterator<Item = &'a [u8]>) -> usize {
+    packets.map(|packet| 1 + usize::from(has_start_flag(packet))).sum()
+}
+
 pub fn has_start_flag(packet: &[u8]) -> bool {
     packet[1] & 0x40 != 0
 }

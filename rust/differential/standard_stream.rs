@@ -7,10 +7,9 @@ use crate::answer::Answer;
 use crate::consumer::{Oracle, SIZE};
 use crate::event::{self, decoded, Event, ENTRY};
 use crate::host_machine::{self, State, MOST_TAKEN, NONE, STANDARD};
-use crate::log_size::most_events;
 use crate::machine_stream::{longest_log, make_packet, random_taken, Told, Walk};
 use crate::rng::Rng;
-use crate::rules::{counter, has_payload_flag, has_start_flag};
+use crate::rules::{counter, has_payload_flag, has_start_flag, most_events};
 use crate::standard_rules::{announcing, has_discontinuity_bit, verdict, verdicts, NO_MORE};
 use crate::tally::{hex, Tally};
 
