@@ -2,10 +2,11 @@
 -- Assumes nothing.
 use mathlib.Core.Path.{_≡_, refl, sym, ap, _∙_}
 use mathlib.Core.Bool.{Bool, true, false}
-use mathlib.Core.List.{List, [], _++_}
+use mathlib.Core.List.{List, [], _∷_, _++_}
 use Prim.Native.Nat.{ℕ, zero, suc, _+_, _-_, _*_, _/_, _%_, _≤_, _<_}
 use native.Mathlib.Omega.{arith}
 use lib.ListN.{length, getD, drop, replicate, length-append}
+use lib.Seq.{sets, length-sets}
 use borrow.Author.Tests.{eq-eqb, ne-eqb}
 use Rattle.bits.specs.Answer.{pick, truth, All}
 use Rattle.bits.specs.Field.{bit, field}
@@ -19,6 +20,7 @@ use Rattle.packet.specs.Packet.{startFlag, counterField, adaptationFlag, payloa
 use Rattle.packet.proofs.Laws.{counter-is, content-plain}
 use Rattle.packet.proofs.Theorems.{control-payload, control-adaptation}
 use Rattle.pes.specs.Head.{notHead}
+use Rattle.log.specs.Entry.{entriesBytes}
 use Rattle.machine.specs.declared.Mode.{Mode}
 use Rattle.machine.specs.declared.Mode.the-variants.{Crate, Standard}
 use Rattle.machine.specs.declared.Phase.{Phase}
@@ -31,16 +33,16 @@ use Rattle.machine.specs.declared.Continuity.the-variants.{GoesOn, Breaks}
 use Rattle.machine.specs.declared.Machine.{Machine}
 use Rattle.machine.specs.Events.{asCounter, State, state, headAccepted, discontinuity, continuityBy, continuity, calls, due, announces, announcement}
 use Rattle.machine.specs.Events.{ended, begun, continued, eventsOf, next, run}
-use Rattle.machine.specs.Step.{stateOf, fresh, numberOf, advanced, outcome, stepOf, Stands}
-use Rattle.machine.specs.Run.{packetsIn, runOf, Reported, IsPacket, startFlags, Logged}
+use Rattle.machine.specs.Step.{stateOf, fresh, eventsAt, numberOf, advanced, Outcome, outcome, stepOf, logOf, Stands}
+use Rattle.machine.specs.Run.{packetsIn, runOf, takenOf, Reported, reportOf, IsPacket, startFlags, Logged}
 use Rattle.machine.specs.History.{first}
 use Rattle.machine.proofs.Counters.{on-first, on-next}
-use Rattle.machine.proofs.Laws.{no-refusal, stands-good, run-over}
+use Rattle.machine.proofs.Laws.{refused-log, no-refusal, stands-good, run-count, run-over}
 use Rattle.machine.proofs.History.{last-is}
 use Rattle.machine.proofs.Slices.{flat-length, packets-flat}
-use Rattle.machine.proofs.Theorems.{events-are, phase-then, leftIn, none-left, started-next, run-full, run-logged}
+use Rattle.machine.proofs.Theorems.{events-are, phase-then, leftIn, none-left, started-next, stands-next, run-full, run-logged}
 use Rattle.bounds.specs.Room.{logBytes, more, moreIn, Full}
-use Rattle.bounds.specs.Reaching.{made, reaching, inputs, breaking, late, waiting, Reaches}
+use Rattle.bounds.specs.Reaching.{made, reaching, inputs, breaking, late, waiting, Speak, Reaches}
 use Rattle.bounds.proofs.Theorems.{run-ends}
 
 -- ---- the packets
@@ -146,6 +148,12 @@ going-run zero (suc n) c i t g =
 going-run (suc s) n c i t g =
     simp length-append (omega (arith, events-on true c t g i, going-run s n (suc c) (suc i) (next t (made true (suc c))) (going-on true c t g)))
 
+going-each : (s n c i : ℕ) (t : State) → Going c t → Speak i t (reaching s n (suc c))
+unfolding reaching
+going-each zero zero c i t g = tt
+going-each zero (suc n) c i t g = (omega (arith, events-on false c t g i), going-each zero n (suc c) (suc i) (next t (made false (suc c))) (going-on false c t g))
+going-each (suc s) n c i t g = (omega (arith, events-on true c t g i), going-each s n (suc c) (suc i) (next t (made true (suc c))) (going-on true c t g))
+
 -- ---- how many they are
 
 reaching-length : (s n c : ℕ) → length (reaching s n c) ≡ s + n
@@ -176,14 +184,19 @@ module _ (c i k : ℕ) (t : State) (h : calls (continuity t (made true c)) true 
   unfolding reaching run
   opened-run s n = simp length-append (omega (arith, e, going-run s n c (suc i) (next t (made true c)) opened))
 
-  all-reach : (s p m : ℕ) → 1 ≤ s → s ≤ p → m + 2 ≡ k + (p + s) → Reaches t i p s m (reaching s (p - s) c)
-  all-reach zero p m u v w = absurd (omega arith)
-  all-reach (suc s) p m u v w = record {
+  opened-each : 1 ≤ k → (s n : ℕ) → Speak i t (reaching (suc s) n c)
+  unfolding reaching
+  opened-each f s n = (omega (arith, e), going-each s n c (suc i) (next t (made true c)) opened)
+
+  all-reach : (s p m : ℕ) → 1 ≤ s → s ≤ p → 1 ≤ k → m + 2 ≡ k + (p + s) → Reaches t i p s m (reaching s (p - s) c)
+  all-reach zero p m u v f w = absurd (omega arith)
+  all-reach (suc s) p m u v f w = record {
     packets = omega (arith, reaching-length (suc s) (p - suc s) c);
     starts = reaching-starts (suc s) (p - suc s) c;
     domain = reaching-all IsPacket is-packet (suc s) (p - suc s) c;
     bytes = reaching-all Bytes are-bytes (suc s) (p - suc s) c;
     events = omega (arith, opened-run s (p - suc s));
+    each = opened-each f s (p - suc s);
   }
 
 -- ---- from a fresh state, in both modes: p + s
@@ -202,7 +215,7 @@ module _ (mo : Mode) where
 
   -- THE BOUND IS REACHED
   pub reached : (s p : ℕ) → 1 ≤ s → s ≤ p → Reaches (first mo) 0 p s (p + s) (inputs s p)
-  reached s p u v = all-reach 0 0 2 (first mo) (ap (λ (c : Continuity). calls c true) first-goes) first-events s p (p + s) u v (omega arith)
+  reached s p u v = all-reach 0 0 2 (first mo) (ap (λ (c : Continuity). calls c true) first-goes) first-events s p (p + s) u v (omega arith) (omega arith)
 
 -- ---- from every state in which `more` allows one entry more: p + s + 1
 
@@ -244,7 +257,7 @@ module _ (i : ℕ) (r : Repeat) where
 pub reached-late : (i : ℕ) (t : State) (s p : ℕ) → moreIn t ≡ 1 → 1 ≤ s → s ≤ p → Reaches t i p s (p + s + 1) (late (t .last) s p)
 reached-late i t s p h u v =
     let q = three i (t .again) (t .mode) (t .announced) (t .last) (t .phase) h in
-    all-reach (breaking (t .last)) i 3 t (q .0) (q .1) s p (p + s + 1) u v (omega arith)
+    all-reach (breaking (t .last)) i 3 t (q .0) (q .1) s p (p + s + 1) u v (omega arith) (omega arith)
 
 -- ---- one packet leaves such a state
 
@@ -267,6 +280,35 @@ waiting-is l =
     let z : numberOf (fresh Standard) (made false 5) l ≡ 0
     = no-refusal (fresh Standard) (made false 5) l (k .0) (k .1) (refl, omega arith, refl) (λ e. omega arith) [] (sym late-none) (omega arith) in
     rw z (ap (outcome done) waiting-next)
+
+-- ---- with one entry less the last packet is refused
+
+each-run : (ps : List (List ℕ)) (i : ℕ) (s : State) → Speak i s ps → length ps ≤ length (run i s ps)
+unfolding run
+each-run [] i s h = omega arith
+each-run (p ∷ ps) i s h = simp length-append (omega (arith, h .0, each-run ps (suc i) (next s p) (h .1)))
+
+all-but-last : (p : List ℕ) (ps : List (List ℕ)) (m : Machine) (l : List ℕ) → Stands m l → All IsPacket (p ∷ ps) → m .taken + suc (length ps) ≤ 4_294_967_295
+    → Speak (m .taken) (stateOf m) (p ∷ ps) → length l + 8 ≡ m .place + 8 * length (run (m .taken) (stateOf m) (p ∷ ps)) → takenOf m (p ∷ ps) l ≡ length ps
+unfolding stepOf logOf advanced next run
+all-but-last p [] m l s w t h e =
+    let z = refused-log m p l (w .0 .0) (w .0 .1) s (λ y. omega arith) (eventsAt m p) refl (omega (arith, h .0, e, s .1, length-append (eventsAt m p) [])) in
+    let n : numberOf m p l ≡ 15 = sym (ap (λ (o : Outcome). o .number) (z .0)) in
+    simp n
+all-but-last p (q ∷ ps) m l s w t h e =
+    let es = eventsAt m p in
+    let k = length-append es (run (suc (m .taken)) (next (stateOf m) p) (q ∷ ps)) in
+    let f : 8 * length es ≤ length l - m .place = omega (arith, e, k, s .1, each-run (q ∷ ps) (suc (m .taken)) (next (stateOf m) p) (h .1)) in
+    let z = no-refusal m p l (w .0 .0) (w .0 .1) s (λ y. omega arith) es refl f in
+    simp z
+    (ap suc (all-but-last q ps (advanced m p) (sets l (m .place) (entriesBytes es)) (stands-next m p l s f) (w .1) (omega arith) (h .1)
+    (omega (arith, e, k, length-sets l (m .place) (entriesBytes es)))))
+
+but-last : (ps : List (List ℕ)) (m : Machine) (l : List ℕ) → Stands m l → All IsPacket ps → m .taken + length ps ≤ 4_294_967_295
+    → Speak (m .taken) (stateOf m) ps → length l + 8 ≡ m .place + 8 * length (run (m .taken) (stateOf m) ps) → takenOf m ps l + 1 ≡ length ps
+unfolding run
+but-last [] m l s w t h e = absurd (omega (arith, s .1))
+but-last (p ∷ ps) m l s w t h e = omega (arith, all-but-last p ps m l s w t h e)
 
 -- ---- over the promise of `run`: a log with room for these events is enough for such packets, and a shorter one is full
 
@@ -292,6 +334,15 @@ module _ (m : Machine) (l : List ℕ) (p s n : ℕ) (ps : List (List ℕ)) (g : 
         step = run-ends ps m l ∙ f;
       }
 
+  -- one entry less, and all but the last are taken
+  pub last-refused : length l + 8 ≡ m .place + 8 * n → reportOf m (flat ps) l .packets + 1 ≡ p
+  last-refused r =
+      let e : takenOf m (packetsIn (flat ps)) l ≡ takenOf m ps l = ap (λ (qs : List (List ℕ)). takenOf m qs l) (packets-flat ps (g .domain)) in
+      let o = runOf m (packetsIn (flat ps)) l in
+      let k = run-over m (flat ps) l whole (stands-good m l h) (o .answer) _ (o .log) refl refl refl .0 in
+      let q = but-last ps m l h (g .domain) (omega (arith, g .packets)) (g .each) (omega (arith, r, g .events)) in
+      omega (arith, ap (λ (x : Reported). x .packets) k, run-count m (packetsIn (flat ps)) l, e, q, g .packets)
+
 -- from a fresh state
 module _ (mo : Mode) (s p : ℕ) (l : List ℕ) (u : 1 ≤ s) (v : s ≤ p) (t : p ≤ 4_294_967_295) where
   -- 8 × (p + s) BYTES ARE ENOUGH ..
@@ -302,6 +353,9 @@ module _ (mo : Mode) (s p : ℕ) (l : List ℕ) (u : 1 ≤ s) (v : s ≤ p) (t :
   pub reached-short : length l < logBytes p s → Full (fresh mo) (inputs s p) l
   reached-short r = too-short (fresh mo) l p s (p + s) (inputs s p) (reached mo s p u v) (refl, omega arith, refl) (omega arith) (omega arith)
 
+  pub reached-last : length l + 8 ≡ logBytes p s → reportOf (fresh mo) (flat (inputs s p)) l .packets + 1 ≡ p
+  reached-last r = last-refused (fresh mo) l p s (p + s) (inputs s p) (reached mo s p u v) (refl, omega arith, refl) (omega arith) (omega arith)
+
 -- from a state in which `more` allows one entry more
 module _ (m : Machine) (s p : ℕ) (l : List ℕ) (e : moreIn (stateOf m) ≡ 1) (h : Stands m l) (u : 1 ≤ s) (v : s ≤ p) (t : m .taken + p ≤ 4_294_967_295) where
   pub late-enough : m .place + logBytes p s + 8 ≤ length l → Logged m (flat (late (m .last) s p)) l p (run (m .taken) (stateOf m) (late (m .last) s p))
@@ -309,3 +363,6 @@ module _ (m : Machine) (s p : ℕ) (l : List ℕ) (e : moreIn (stateOf m) ≡ 1)
 
   pub late-short : length l < m .place + logBytes p s + 8 → Full m (late (m .last) s p) l
   late-short r = too-short m l p s (p + s + 1) (late (m .last) s p) (reached-late (m .taken) (stateOf m) s p e u v) h t (omega arith)
+
+  pub late-last : length l ≡ m .place + logBytes p s → reportOf m (flat (late (m .last) s p)) l .packets + 1 ≡ p
+  late-last r = last-refused m l p s (p + s + 1) (late (m .last) s p) (reached-late (m .taken) (stateOf m) s p e u v) h t (omega arith)

@@ -2,7 +2,7 @@
 use mathlib.Core.Path.{_≡_}
 use mathlib.Core.Bool.{Bool, true, false}
 use mathlib.Core.List.{List, [], _∷_}
-use Prim.Native.Nat.{ℕ, zero, suc, _+_, _-_, _*_, _%_}
+use Prim.Native.Nat.{ℕ, zero, suc, _+_, _-_, _*_, _%_, _≤_}
 use lib.ListN.{length, replicate}
 use Rattle.bits.specs.Answer.{truth, All}
 use Rattle.bits.specs.Pack.{Bytes}
@@ -12,7 +12,7 @@ use Rattle.machine.specs.declared.Last.{Last}
 use Rattle.machine.specs.declared.Last.the-variants.{Nothing, At}
 use Rattle.machine.specs.declared.Repeat.the-variants.{Open}
 use Rattle.machine.specs.declared.Machine.{Machine}
-use Rattle.machine.specs.Events.{asCounter, State, run}
+use Rattle.machine.specs.Events.{asCounter, State, eventsOf, next, run}
 use Rattle.machine.specs.Step.{machine}
 use Rattle.machine.specs.Run.{IsPacket, startFlags}
 
@@ -45,10 +45,16 @@ late la s p = reaching s (p - s) (breaking la)
 abbrev pub waiting : Machine
 waiting = machine Standard Begin (At (asCounter 5)) Open false 1 0
 
--- p packets of 188 bytes with sync, s of them with the start flag, give n events from a state on
+-- each packet has an event
+abbrev pub Speak : ℕ → State → List (List ℕ) → Type 0
+Speak i from [] = Unit {0}
+Speak i from (p ∷ ps) = (1 ≤ length (eventsOf i from p)) × Speak (suc i) (next from p) ps
+
+-- p packets of 188 bytes with sync, s of them with the start flag, give n events from a state on, and each at least one
 pub record Reaches (from : State) (i p s n : ℕ) (ps : List (List ℕ)) : Type 0 where
   pub packets : length ps ≡ p
   pub starts : startFlags ps ≡ s
   pub domain : All IsPacket ps
   pub bytes : All Bytes ps
   pub events : length (run i from ps) ≡ n
+  pub each : Speak i from ps
