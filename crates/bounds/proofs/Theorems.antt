@@ -135,7 +135,7 @@ starts-few (p ∷ ps) = omega (arith, starts-few ps, one (startFlag p))
 
 -- ---- the log
 
--- THE STEPS OF A LOG WITH SO MANY FREE BYTES NEVER ANSWER 15, whatever the packets, the state and the place
+-- WITH SO MANY FREE BYTES NO STEP ANSWERS 15, whatever the packets, the state and the place
 pub steps-never-full : (ps : List (List ℕ)) (m : Machine) (l : List ℕ) → bytesFor (stateOf m) ps ≤ length l - m .place → All NotFull (answersOf m ps l)
 unfolding stepOf logOf advanced
 steps-never-full [] m l r = tt
@@ -173,7 +173,7 @@ all-at P (x ∷ xs) (suc k) d z h = all-at P xs k d z (h .1)
 zero-not : NotFull 0
 zero-not e = omega arith
 
--- NOR DOES A RUN, and it does not end with 15
+-- AND NO RUN ANSWERS 15 OR ENDS WITH IT
 pub run-never-full : (m : Machine) (bytes l : List ℕ) → bytesFor (stateOf m) (packetsIn bytes) ≤ length l - m .place
     → NotFull (reportOf m bytes l .number) × NotFull (reportOf m bytes l .ended)
 unfolding reportOf runNumber notRun

@@ -46,7 +46,7 @@ fn packet(start: bool, counter: usize) -> [u8; 188]
     p
 }
 
-// How many packets have the start flag, which are the first, how many there are, and the counter of the first one.
+// So many packets, of which so many, the first ones, have the start flag; and the counter of the very first.
 struct Row {
     starts: usize,
     packets: usize,
