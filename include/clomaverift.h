@@ -545,8 +545,8 @@ enum {
    one packet. Once its events are read the log can be used again: set PLACE to 0. */
 
 /* How long a log must be: with 8 * (packets + starts) free bytes 15 never comes, whatever the packets are, from every state of mode 0,
-   and in mode 1 from the fresh state and once ANNOUNCED is 1. From any other state of mode 1 it takes 8 bytes more. Who does not know
-   how many packets are starts counts every packet as one. */
+   and in mode 1 from the fresh state and once ANNOUNCED is 1. From any other state of mode 1 it can take 8 bytes more. If it is not
+   known how many packets are starts, count every packet as one. */
 
 /* The kinds of events. */
 enum {

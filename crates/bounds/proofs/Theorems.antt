@@ -85,16 +85,16 @@ at-most-more i s p =
 
 -- ---- packets
 
-either : (s : Bool) → pick s 2 1 ≡ pick s 1 0 + 1
-either true = refl
-either false = refl
+two-or-one : (s : Bool) → pick s 2 1 ≡ pick s 1 0 + 1
+two-or-one true = refl
+two-or-one false = refl
 
 -- AT MOST ONE EVENT FOR EACH PACKET AND ONE FOR EACH START FLAG, and what `more` allows, from every state of both modes
 pub events-bound : (i : ℕ) (s : State) (ps : List (List ℕ)) → length (run i s ps) ≤ length ps + startFlags ps + moreIn s
 unfolding run
 events-bound i s [] = omega arith
 events-bound i s (p ∷ ps) =
-    simp length-append (omega (arith, at-most-more i s p, either (startFlag p), events-bound (suc i) (next s p) ps))
+    simp length-append (omega (arith, at-most-more i s p, two-or-one (startFlag p), events-bound (suc i) (next s p) ps))
 
 crate-none : (s : State) → s .mode ≡ Crate → moreIn s ≡ 0
 crate-none s m = rw m
@@ -141,7 +141,7 @@ unfolding stepOf logOf advanced
 steps-never-full [] m l r = tt
 steps-never-full (p ∷ ps) m l r =
     let k = at-most-more (m .taken) (stateOf m) p in
-    let j = either (startFlag p) in
+    let j = two-or-one (startFlag p) in
     let n = length-sets l (m .place) (entriesBytes (eventsAt m p)) in (
       never-full m p l (omega (arith, k, j)),
       go (eqb (numberOf m p l) 0)

@@ -17,16 +17,16 @@ use Rattle.machine.specs.Step.{machine}
 use Rattle.machine.specs.Run.{IsPacket, startFlags}
 
 -- a packet of PID 256 with 184 bytes of payload, which begin with the header of an unbounded video unit; its counter is c modulo 16
-unfoldable pub made : Bool → ℕ → List ℕ
-made start c =
+unfoldable pub eventful : Bool → ℕ → List ℕ
+eventful start c =
     0x47 ∷ (0x40 * truth start + 1) ∷ 0 ∷ (0x10 + c % 16)
     ∷ 0 ∷ 0 ∷ 1 ∷ 0xE0 ∷ 0 ∷ 0 ∷ 0x80 ∷ 0 ∷ 0 ∷ replicate 175 0xFF
 
 -- s packets with the start flag, then n without it, the counters running from c on
 unfoldable pub reaching : ℕ → ℕ → ℕ → List (List ℕ)
 reaching zero zero c = []
-reaching zero (suc n) c = made false c ∷ reaching zero n (suc c)
-reaching (suc s) n c = made true c ∷ reaching s n (suc c)
+reaching zero (suc n) c = eventful false c ∷ reaching zero n (suc c)
+reaching (suc s) n c = eventful true c ∷ reaching s n (suc c)
 
 -- p packets, s of them with the start flag: from a fresh state they give p + s events
 abbrev pub inputs : ℕ → ℕ → List (List ℕ)
@@ -53,7 +53,7 @@ Speak i from (p ∷ ps) = (1 ≤ length (eventsOf i from p)) × Speak (suc i) (n
 -- p packets of 188 bytes with sync, s of them with the start flag, give n events from a state on, and each at least one
 pub record Reaches (from : State) (i p s n : ℕ) (ps : List (List ℕ)) : Type 0 where
   pub packets : length ps ≡ p
-  pub starts : startFlags ps ≡ s
+  pub flagged : startFlags ps ≡ s
   pub domain : All IsPacket ps
   pub bytes : All Bytes ps
   pub events : length (run i from ps) ≡ n

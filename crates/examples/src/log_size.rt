@@ -3,7 +3,7 @@
 ghost use mathlib.Core.Path.{_≡_};
 ghost use Prim.Native.Nat.{_+_, _*_, _<_};
 ghost use Rattle.bits.specs.Answer.{truth};
-ghost use Rattle.bounds.specs.Reaching.{made};
+ghost use Rattle.bounds.specs.Reaching.{eventful};
 use crate::machines;
 use crate::show;
 use bits::copy_at;
@@ -33,7 +33,7 @@ fn flags(start: bool) -> u8
 
 // A packet of the proof: its payload begins with the header of a unit, and its counter is the number modulo 16.
 fn packet(start: bool, counter: usize) -> [u8; 188]
-    ensures { λ r. ⌜ r ≡ made start counter ⌝ }
+    ensures { λ r. ⌜ r ≡ eventful start counter ⌝ }
 {
     let mut p = [0xFFu8; 188];
     copy_at(

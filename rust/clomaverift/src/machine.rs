@@ -100,7 +100,7 @@ numbered!(Phase: Begin, Started, IgnoreRest);
 /// packets which need all of them.
 ///
 /// It holds from every state in [`Mode::Crate`]. In [`Mode::Standard`] it holds from [`Machine::standard`] on, and once the stream was
-/// [announced](Machine::announced); a machine that has taken packets and announced nothing yet may need 8 bytes more.
+/// [announced](Machine::announced); in any other state a machine may need 8 bytes more.
 ///
 /// If it is not known how many packets have the start flag, count every packet as one. A number too large for `usize` becomes the largest.
 ///
