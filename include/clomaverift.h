@@ -63,8 +63,7 @@ enum {
     CMV_BAD_FIELD = 17, /* the writer: a field cannot be written */
     CMV_TOO_LONG = 18, /* the writer: more bytes than a unit may have */
     CMV_NO_ROOM = 19, /* the writer: the output has no room for all packets */
-    CMV_STORE_FULL = 20, /* the gathering store: the unit would exceed the store */
-    CMV_DAMAGED = 24 /* the machine: the packet is marked as damaged */
+    CMV_STORE_FULL = 20 /* the gathering store: the unit would exceed the store */
 };
 
 /* The number of a word, and the first and the second number that go with it. */
@@ -564,10 +563,8 @@ void cmv_machine_fresh(uint64_t state[7]);
 /* Writes the same in the standard's mode: {1, 0, 255, 0, 0, 0, 0}. */
 void cmv_machine_standard(uint64_t state[7]);
 
-/* Takes one packet. On 0 the state is the next one and the packet's events stand in the log from the old PLACE on. A refused packet changes
-   neither, and the next one is judged as if it had not come.
-   Refused with 1, 2, 24, 14, 16, 15.
-   24: the packet's transport_error_indicator is 1.
+/* Takes one packet. On 0 the state is the next one and the packet's events stand in the log from the old PLACE on.
+   Refused with 1, 2, 14, 16, 15.
    14: the state is impossible: MODE or ANNOUNCED above 1, PHASE or AGAIN above 2, LAST above 15 and not 255, TAKEN of more than 32 bits, or
    PLACE above log_len or no multiple of 8.
    16: TAKEN is 4,294,967,295.
@@ -575,8 +572,8 @@ void cmv_machine_standard(uint64_t state[7]);
 uint32_t cmv_machine_step(uint64_t state[7], const uint8_t *packet, size_t packet_len, uint8_t *log, size_t log_len);
 
 /* Takes packets, which follow each other in bytes, up to the first that is refused. On 0 taken is how many it took; ended is 0 if that is
-   all of them, else the number that the next one is refused with, 2, 24, 16 or 15; and state and log are those after the packets taken. So
-   if ended is 15, read the log, set PLACE to 0 and go on from bytes + 188 * taken; if it is 2 or 24, pass over the packet there.
+   all of them, else the number that the next one is refused with, 2, 16 or 15; and state and log are those after the packets taken. So if
+   ended is 15, read the log, set PLACE to 0 and go on from bytes + 188 * taken; if it is 2, pass over the packet there.
    Refused with 1, 14.
    1: bytes_len is not a multiple of 188.
    14: the state is impossible, as of cmv_machine_step; also if there is no packet. */

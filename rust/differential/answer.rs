@@ -1,12 +1,12 @@
-//! An answer: its number (0 done, 1 to 20 and 24 a refusal) and the values given with it.
+//! An answer: its number (0 done, 1 to 20 a refusal) and the values given with it.
 
 use std::fmt;
 
 /// The most values that an answer has.
 pub const MOST: usize = 9;
 
-/// Every number is below this. 21 to 23 are given by nothing.
-pub const NUMBERS: usize = 25;
+/// How many numbers there are: 0 to 20.
+pub const NUMBERS: usize = 21;
 
 #[derive(Clone, Copy, Debug, PartialEq)]
 pub struct Answer {

@@ -1,6 +1,5 @@
 //! The oracle's machine: `PesPacketFilter::consume`, with a consumer that hands its calls on. `Demultiplex::push`, which would call it,
-//! drops packets by their error and scrambling bits. The library's machine refuses those with the error bit: where the two are compared,
-//! none is given to this one.
+//! drops packets by their error and scrambling bits.
 
 use crate::event::{self, Event, Events};
 use crate::host_machine::{BEGIN, IGNORE_REST, NONE, STARTED};

@@ -1,7 +1,7 @@
 //! How what the rows of docs/DIFFERENCES.md name is asked of both sides: inputs and their domain, answers as text.
 
 use crate::answer::Answer;
-use crate::consumer::{Oracle, SIZE};
+use crate::consumer::SIZE;
 use crate::differences_input::{bytes, number, packets, pair, unit};
 use crate::event::{self, Event, ENTRY};
 use crate::host::Reader;
@@ -83,9 +83,8 @@ pub const FIELD: Kind<Bytes> = Kind { read: bytes, domain: |bytes, _| within(!by
 /// Header slices of every length, and extensions.
 pub const EVERY: Kind<Bytes> = Kind { read: bytes, domain: |_, _| "inside" };
 pub const PACKET: Kind<Bytes> = Kind { read: bytes, domain: |bytes, _| within(is_packet(bytes)) };
-/// Packets to the machine, whose domain has none with the error bit.
 pub const PACKETS: Kind<Vec<Bytes>> =
-    Kind { read: packets, domain: |packets, _| within(packets.iter().all(|of| is_packet(of) && of[1] & 0x80 == 0)) };
+    Kind { read: packets, domain: |packets, _| within(packets.iter().all(|of| is_packet(of))) };
 /// Packets to a part of the oracle that is not ported.
 pub const PUSHED: Kind<Vec<Bytes>> = Kind { read: packets, domain: |_, _| "not ported" };
 pub const UNIT: Kind<Unit> = Kind { read: unit, domain: |_, _| "inside" };
@@ -174,13 +173,7 @@ fn named(event: &Event) -> String {
     }
 }
 
-// ---- The machine: the oracle's, and the library's.
-
-/// The events of packets that the oracle's machine takes.
-pub fn consumed(packets: &[Bytes]) -> String {
-    let mut oracle = Oracle::new();
-    listed(&packets.iter().map(|packet| oracle.consume(packet).to_vec()).collect::<Vec<_>>())
-}
+// ---- The library's machine.
 
 /// The events of packets that are taken step by step, or the refusal of one.
 pub fn steps(packets: &[Bytes]) -> Result<Vec<Vec<Event>>, u32> {

@@ -1,9 +1,9 @@
 //! The first table of docs/DIFFERENCES.md: functions of which the answers differ. The oracle's answer is as the oracle prints it.
 
 use crate::adaptation;
-use crate::demultiplexer::demultiplexed;
-use crate::differences_calls::{call, consumed, listed, machine, made, number_of, read, Bytes, Call};
-use crate::differences_calls::{CLOCK, EVERY, FIELD, PACKET, PACKETS, PARTS, PUSHED, STAMP};
+use crate::differences_calls::{call, listed, machine, made, number_of, read, Bytes, Call};
+use crate::differences_calls::{CLOCK, EVERY, FIELD, PACKET, PARTS, PUSHED, STAMP};
+use crate::differences_whole::handed_on;
 use crate::host::{self, Reader};
 use crate::reading::Reading;
 use mpeg2ts_reader::packet::{AdaptationField, ClockRef, ContinuityCounter, Packet, Pid};
@@ -112,19 +112,12 @@ pub fn calls() -> Vec<Call> {
             host::PACKET_TRY_NEW,
         ),
         call(
-            "PesPacketFilter::consume",
-            PACKETS,
-            &["47 C1 00 10 00 00 01 E0 180×FF"],
-            |packets| consumed(packets),
-            |packets| machine(packets),
-        ),
-        call(
             "Demultiplex::push",
             PUSHED,
             &["47 C1 00 10 00 00 01 E0 180×FF", "47 41 00 50 00 00 01 E0 180×FF"],
-            |packets| match &demultiplexed(&packets.concat())[..] {
-                [] => "dropped".to_string(),
-                handed_on => listed(&handed_on.iter().map(|(_, events)| events.to_vec()).collect::<Vec<_>>()),
+            |packets| match handed_on(packets) {
+                events if events.is_empty() => "dropped".to_string(),
+                events => listed(&events.iter().map(|events| events.to_vec()).collect::<Vec<_>>()),
             },
             |packets| machine(packets),
         ),

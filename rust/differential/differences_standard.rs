@@ -5,7 +5,7 @@
 use crate::answer::Answer;
 use crate::consumer::{Oracle, SIZE};
 use crate::differences_calls::{
-    call_of, consumed, machine, made, number_of, read, steps, text, values, Bytes, Call, Kind, Shown,
+    call_of, listed, machine, made, number_of, read, steps, text, values, Bytes, Call, Kind, Shown,
 };
 use crate::differences_calls::{CLOCK, EVERY, FIELD, PACKET, PACKETS, STAMP, UNIT};
 use crate::gatherer::Gatherer;
@@ -224,8 +224,14 @@ fn of_streams() -> Vec<Call> {
                 ("47 41 00 50 00 00 01 E0 180×FF", |packets| {
                     bits(&packets[0], 24, 2) != 0b00 && control_of(&packets[0]) == 0b01
                 }),
+                ("47 C1 00 10 00 00 01 E0 180×FF", |packets| {
+                    bits(&packets[0], 8, 1) == 1 && control_of(&packets[0]) == 0b01
+                }),
             ],
-            |packets| consumed(packets),
+            |packets| {
+                let mut oracle = Oracle::new();
+                listed(&packets.iter().map(|packet| oracle.consume(packet).to_vec()).collect::<Vec<_>>())
+            },
             |packets| machine(packets),
         ),
         call_of(

@@ -3,7 +3,6 @@
 use crate::consumer::SIZE;
 use crate::pids::by_pid;
 use crate::rng::Rng;
-use crate::rules::ERROR_BIT;
 use crate::stream::read;
 use crate::tally::grouped;
 
@@ -34,8 +33,8 @@ impl<'a> Files<'a> {
     }
 }
 
-/// Of a hundred packets one is lost, one repeated, one exchanged with the one before it, one has the error bit and three have bits
-/// changed, in their first bytes but not in the sync byte.
+/// Of a hundred packets one is lost, one repeated, one exchanged with the one before it and three have bits changed, in their first
+/// bytes but not in the sync byte.
 fn damaged(bytes: &[u8], rng: &mut Rng) -> Vec<u8> {
     let mut copy = vec![];
     for packet in bytes.chunks_exact(SIZE) {
@@ -45,7 +44,6 @@ fn damaged(bytes: &[u8], rng: &mut Rng) -> Vec<u8> {
             1 => copy.extend_from_within(len.saturating_sub(SIZE)..),
             2 if len > 0 => packet = copy.splice(len - SIZE.., packet).collect(),
             3..=5 => (0..=rng.below(3)).for_each(|_| packet[1 + rng.below(23)] ^= 1 << rng.below(8)),
-            6 => packet[1] |= ERROR_BIT,
             _ => (),
         }
         copy.extend(packet);

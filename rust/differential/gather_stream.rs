@@ -1,6 +1,5 @@
 //! Streams through the gathering store, made at random and real: every event that the oracle's machine gives, in its packet, and the
-//! bytes of each unit, which a consumer of the oracle gathers too. Damaged packets are among those that give events here: the oracle's
-//! machine takes them, the library's is not asked, and the store does not look at the error bit.
+//! bytes of each unit, which a consumer of the oracle gathers too.
 
 use crate::answer::Answer;
 use crate::consumer::{Oracle, SIZE};
@@ -12,7 +11,6 @@ use crate::lent::Lent;
 use crate::machine::payload_at;
 use crate::machine_stream::make_stream;
 use crate::rng::Rng;
-use crate::rules::{has_start_flag, ERROR_BIT};
 use crate::tally::{grouped, report, Tally};
 use std::time::Instant;
 
@@ -45,15 +43,16 @@ pub fn compare_files(files: &[String]) -> bool {
     report("gather", began, &walk.into_tallies())
 }
 
-/// A random stream, whose heads have contents, and of which half of the packets are damaged.
+/// A random stream, whose heads have contents.
 fn make_units(packets: &mut [u8], rng: &mut Rng) {
-    make_stream(packets, 0, rng);
-    for packet in packets.chunks_exact_mut(SIZE) {
-        if has_start_flag(packet) {
-            set_contents(packet, payload_at(packet), rng);
-        }
-        packet[1] |= rng.next() as u8 & ERROR_BIT;
+    make_stream(packets, rng);
+    for packet in packets.chunks_exact_mut(SIZE).filter(|packet| starts(packet)) {
+        set_contents(packet, payload_at(packet), rng);
     }
+}
+
+fn starts(packet: &[u8]) -> bool {
+    packet[1] & 0x40 != 0
 }
 
 pub struct Walk {
@@ -100,7 +99,7 @@ impl Walk {
         let (mut events, mut units) = (Oracle::new(), Oracle::heard_by(Gatherer::new(room)));
         let mut state = Gathering::FIRST;
         for (packet, from) in packets.chunks_exact(SIZE).zip((0..).step_by(SIZE)) {
-            if has_start_flag(packet) {
+            if starts(packet) {
                 self.whole(units.listener(), state);
             }
             units.take(packet);

@@ -1,7 +1,6 @@
 //! How long a log has to be, as the request has it: p packets, s of them with the start flag, have at most p + s events in the crate's
-//! mode, and p + s + 1 in the standard mode, where p + s suffice if the stream was announced and from a fresh state. Packets that
-//! are refused, as damaged ones are, do not count. Compared are logs of just that length, inputs that fill them, and the greatest number of
-//! events among all short lists of packets.
+//! mode, and p + s + 1 in the standard mode, where p + s suffice if the stream was announced and from a fresh state. Compared are logs of
+//! just that length, inputs that fill them, and the greatest number of events among all short lists of packets.
 
 use crate::answer::Answer;
 use crate::consumer::SIZE;
@@ -12,7 +11,7 @@ use crate::machine::{every_state, oracle_in, packet, Call, Ran, Runs, HEAD, NO_H
 use crate::machine_stream::{longest_log, Told};
 use crate::module::{Module, Plan};
 use crate::rng::Rng;
-use crate::rules::{has_start_flag, is_damaged, most_events, ERROR_BIT};
+use crate::rules::{has_start_flag, most_events};
 use crate::tally::{hex, Tally};
 use mpeg2ts_reader::packet::Packet;
 use std::collections::BTreeMap;
@@ -105,21 +104,16 @@ fn compare_bounds(count: u64, rng: &mut Rng) -> Vec<Tally> {
 
 /// The oracle, to which no refused packet is given, makes as many calls as the library gave events, and at most p + s.
 fn compare_calls(tally: &mut Tally, first: State, list: &[Vec<u8>], events: usize) {
-    let Some(calls) = calls(first, proper(list)) else { return };
-    let agrees = calls == events && calls <= most_events(proper(list));
+    let proper = || list.iter().map(Vec::as_slice).filter(|packet| refusal(packet) == 0);
+    let Some(calls) = calls(first, proper()) else { return };
+    let agrees = calls == events && calls <= most_events(proper());
     let given = || format!("{calls} calls, {events} events");
-    tally.take_check(&Answer::done(&[]), agrees, || text(first, proper(list)), given);
-}
-
-/// The packets that are not refused.
-fn proper(list: &[Vec<u8>]) -> impl Iterator<Item = &[u8]> {
-    list.iter().map(Vec::as_slice).filter(|packet| refusal(packet) == 0)
+    tally.take_check(&Answer::done(&[]), agrees, || text(first, proper()), given);
 }
 
 /// The number that a packet is refused with by its bytes alone, or 0: no other is to come, as there are indices and room enough.
 fn refusal(packet: &[u8]) -> u32 {
     match (packet.len(), packet[0]) {
-        (SIZE, Packet::SYNC_BYTE) if is_damaged(packet) => 24,
         (SIZE, Packet::SYNC_BYTE) => 0,
         (SIZE, _) => 2,
         _ => 1,
@@ -142,7 +136,7 @@ impl Bound {
     fn new(name: &str, more: usize) -> Bound {
         Bound {
             more,
-            step: Tally::new(&format!("machine::step, {name}"), &[0, 1, 2, 24]),
+            step: Tally::new(&format!("machine::step, {name}"), &[0, 1, 2]),
             run: Tally::new(&format!("machine::run, {name}"), &[0]),
             left: Tally::beside(&format!("machine::step and machine::run, {name}: their entries"), &[0]),
             log: Lent::new(MOST_BEFORE + longest_log(MOST)),
@@ -153,9 +147,9 @@ impl Bound {
     /// lists go to the last index.
     fn random_list(&mut self, first: State, rng: &mut Rng) -> (Vec<Vec<u8>>, usize) {
         let mut list = random_list(first.last, rng);
-        let taken = [rng.next() >> 33, MOST_TAKEN - proper(&list).count() as u64][rng.below(2)];
+        let taken = [rng.next() >> 33, MOST_TAKEN - list.len() as u64][rng.below(2)];
         let first = State { taken, place: ENTRY * rng.below(MOST_BEFORE / ENTRY + 1), ..first };
-        let most = most_events(proper(&list)) + self.more;
+        let most = most_events(list.iter().map(Vec::as_slice)) + self.more;
         let mut log = vec![0; first.place + ENTRY * most];
         rng.fill(&mut log);
         self.log.set(&log, rng.next() as u8);
@@ -208,7 +202,7 @@ impl Bound {
 }
 
 /// The packets after one with this counter. Of four lists one has as many events as it can: starts and what goes on with them, with the
-/// counters that are due. In the others every kind comes, a counter of four is the same and one jumps, and of 32 packets three are refused.
+/// counters that are due. In the others every kind comes, a counter of four is the same and one jumps, and a packet of 16 is refused.
 fn random_list(last: u64, rng: &mut Rng) -> Vec<Vec<u8>> {
     let (rich, mut counter) = (rng.below(4) == 0, last as u8);
     let count = 1 + rng.below(MOST);
@@ -222,7 +216,6 @@ fn random_list(last: u64, rng: &mut Rng) -> Vec<Vec<u8>> {
         match rng.below(32) {
             0 if !rich => packet[0] = 0x46,
             1 if !rich => packet.truncate(SIZE - 1),
-            2 if !rich => packet[1] |= ERROR_BIT,
             _ => (),
         }
         packet

@@ -3,7 +3,6 @@
 
 use crate::answer::Answer;
 use crate::consumer::{phase_before, start, Oracle, SIZE};
-use crate::damaged;
 use crate::event::{self, decoded, Event, ENTRY};
 use crate::host_machine::{self, log_entry_at, State};
 use crate::host_machine::{BEGIN, CRATE, IGNORE_REST, MOST_TAKEN, NONE, STANDARD, STARTED};
@@ -12,7 +11,7 @@ use crate::lent::Lent;
 use crate::machine_stream;
 use crate::module::{Module, Plan};
 use crate::rng::Rng;
-use crate::rules::{self, is_damaged, Happened, ERROR_BIT};
+use crate::rules::{self, Happened};
 use crate::standard_rules;
 use crate::tally::{hex, Given, Tally};
 use mpeg2ts_reader::packet::Packet;
@@ -32,7 +31,6 @@ fn compare(plan: &Plan) -> Vec<Tally> {
     let mut tallies = cases.into_tallies();
     let mut rng = plan.rng(2);
     tallies.extend(machine_stream::compare_random(plan.count, &mut plan.rng(3)));
-    tallies.extend(damaged::compare(plan.share(8), &mut plan.rng(4)));
     tallies.push(compare_entries(&mut rng));
     tallies.push(compare_first("machine::new, its row", State::FIRST, host_machine::fresh, &mut rng));
     tallies
@@ -190,18 +188,18 @@ pub const MOST_ENTRIES: usize = 3 * ENTRY;
 
 impl Cases {
     pub fn new(rng: Rng) -> Cases {
-        const RUNS: [&[usize]; 2] = [&[0, 1, 14], &[0, 2, 15, 16, 24]];
+        const RUNS: [&[usize]; 2] = [&[0, 1, 14], &[0, 2, 15, 16]];
         Cases {
             told: Tallies {
-                step: Tally::new("machine::step", &[0, 1, 2, 14, 15, 16, 24]),
+                step: Tally::new("machine::step", &[0, 1, 2, 14, 15, 16]),
                 runs: Runs::new("machine::run, over a packet or none", RUNS),
             },
             ruled: Tallies {
-                step: Tally::new("machine::step, by the rules: phases without a counter", &[0, 15, 24]),
+                step: Tally::new("machine::step, by the rules: phases without a counter", &[0, 15]),
                 runs: Runs::new("machine::run, by the rules: phases without a counter", RUNS),
             },
             standard: Tallies {
-                step: Tally::new("machine::step, standard mode", &[0, 1, 2, 14, 15, 16, 24]),
+                step: Tally::new("machine::step, standard mode", &[0, 1, 2, 14, 15, 16]),
                 runs: Runs::new("machine::run, standard mode, over a packet or none", RUNS),
             },
             rules: Tally::of_oracle("machine::step, the rules against the Rust", &[0]),
@@ -260,9 +258,6 @@ impl Cases {
         if packet[0] != Packet::SYNC_BYTE {
             return Err(2);
         }
-        if is_damaged(packet) {
-            return Err(24);
-        }
         if !state.stands(room) {
             return Err(14);
         }
@@ -276,8 +271,8 @@ impl Cases {
         Ok(happened)
     }
 
-    /// What a packet that is not damaged does in a state: by the oracle, or by the rules where the oracle cannot be brought there. The
-    /// phase after it is seen from what the oracle does with one more packet, whose counter follows.
+    /// What a packet does in a state: by the oracle, or by the rules where the oracle cannot be brought there. The phase after it is
+    /// seen from what the oracle does with one more packet, whose counter follows.
     fn happened(&mut self, state: State, packet: &[u8]) -> Happened {
         let ruled = by_rules(state, packet);
         let Some(mut oracle) = oracle_in(state) else { return ruled };
@@ -293,7 +288,7 @@ impl Cases {
     }
 
     /// Every state with every control byte, with and without the start flag and a head, and lengths of the adaptation field around
-    /// each bound; each with one more packet after it, and of eight one with the error bit too.
+    /// each bound; each with one more packet after it.
     fn every_state(&mut self) {
         for state in every_state(CRATE).filter(|state| state.again == 0 && state.announced == 0) {
             for control in 0..=255 {
@@ -310,28 +305,21 @@ impl Cases {
     /// difference to the events.
     fn state(&mut self, state: State, [flags, control, length]: [u8; 3], head: [u8; 6]) {
         let random = self.rng.next();
-        let packet = packet([flags | random as u8 & 0x3f, (random >> 8) as u8, control, length], head);
+        let packet = packet([flags | random as u8 & 0xbf, (random >> 8) as u8, control, length], head);
         let place = ENTRY * (random >> 16 & 1) as usize;
         let state = State { taken: random >> 33, place, ..state };
         let judged = self.judged(state, &packet, LONGEST_LOG);
-        let states = [(0, 0), (0, 1), (1, 0), (1, 1), (2, 0), (2, 1)];
-        let states = states.map(|(again, announced)| State { again, announced, ..state });
-        let [after, ..] = states.map(|state| self.hold(state, &packet, LONGEST_LOG, &judged));
+        let [after, ..] = [(0, 0), (0, 1), (1, 0), (1, 1), (2, 0), (2, 1)]
+            .map(|(again, announced)| self.hold(State { again, announced, ..state }, &packet, LONGEST_LOG, &judged));
         self.take(after, &start(after.last as u8 + 1), LONGEST_LOG);
-        if random >> 17 & 7 == 0 {
-            for state in states {
-                self.take(state, &with_error_bit(packet), LONGEST_LOG);
-            }
-        }
     }
 
     /// In every position of a row numbers that stand for something and numbers that stand for nothing, of which some have lower bits
-    /// that do; each row also with a packet that is too short, with one without its sync byte, with a damaged one and with none, as 1, 2
-    /// and 24 come before 14.
+    /// that do; each row also with a packet that is too short, with one without its sync byte and with none, as 1 and 2 come before 14.
     pub fn every_row(&mut self, modes: &[u64]) {
         let [_, packet, ..] = by_events();
-        let (lost, damaged) = ([&[0x46], &packet[1..]].concat(), with_error_bit(packet));
-        for packet in [&packet[..], &packet[1..], &lost, &damaged, &[]] {
+        let lost = [&[0x46], &packet[1..]].concat();
+        for packet in [&packet[..], &packet[1..], &lost, &[]] {
             every_row(modes).for_each(|state| {
                 self.take(state, packet, LONGEST_LOG);
             });
@@ -516,12 +504,6 @@ pub fn packet(header: [u8; 4], head: [u8; 6]) -> [u8; SIZE] {
     packet
 }
 
-/// The packet, damaged.
-pub fn with_error_bit(mut packet: [u8; SIZE]) -> [u8; SIZE] {
-    packet[1] |= ERROR_BIT;
-    packet
-}
-
 /// Writes this where the payload begins, as far as the packet goes.
 pub fn set_head(packet: &mut [u8], head: [u8; 6]) {
     let at = payload_at(packet);
@@ -551,14 +533,11 @@ fn by_events() -> [[u8; SIZE]; 6] {
     ]
 }
 
-/// The packet, without its sync byte, and with lengths that no packet has, with and without the sync byte; and these with the error bit.
+/// The packet, without its sync byte, and with lengths that no packet has, with and without the sync byte.
 fn every_packet_fault(packet: &[u8; SIZE]) -> Vec<Vec<u8>> {
-    let faults = [*packet, with_error_bit(*packet)].into_iter().flat_map(|packet| {
-        let lost = [&[0x46], &packet[1..]].concat();
-        let long = [&packet[..], &[0x47]].concat();
-        [packet.to_vec(), lost.clone(), packet[..SIZE - 1].to_vec(), lost[..SIZE - 1].to_vec(), long]
-    });
-    faults.chain([vec![]]).collect()
+    let lost = [&[0x46], &packet[1..]].concat();
+    let long = [&packet[..], &[0x47]].concat();
+    vec![packet.to_vec(), lost.clone(), vec![], packet[..SIZE - 1].to_vec(), lost[..SIZE - 1].to_vec(), long]
 }
 
 // ---- Entries of the log.

@@ -1,5 +1,5 @@
 //! Streams through the event machine, made at random and real: every event, every state and every byte of the log. In the standard
-//! mode they are judged by its rules, for standard_stream.rs. Both judges are given the stream without its damaged packets.
+//! mode they are judged by its rules, for standard_stream.rs.
 
 use crate::consumer::{Oracle, SIZE};
 use crate::event::{self, ENTRY};
@@ -8,7 +8,7 @@ use crate::host_machine::{log_entry_at, State, IGNORE_REST, MOST_TAKEN, STARTED}
 use crate::lent::Lent;
 use crate::machine::{by_rules, entry_answer, next, oracle_in, set_head, Call, Ran, Runs, MOST_ENTRIES};
 use crate::rng::Rng;
-use crate::rules::{is_damaged, Happened, ERROR_BIT};
+use crate::rules::Happened;
 use crate::standard_stream::Standard;
 use crate::tally::{grouped, report, Tally};
 use mpeg2ts_reader::packet::Packet;
@@ -25,16 +25,16 @@ const ALWAYS: usize = 100_000;
 
 /// Compares on random streams of so many packets more than are always compared. The first runs out of indices.
 pub fn compare_random(count: u64, rng: &mut Rng) -> Vec<Tally> {
-    let mut walk = Walk::new("streams", MOST, [&[0, 15, 16, 24], &[0, 1, 14], &[0, 2, 15, 16, 24], &[0]]);
+    let mut walk = Walk::new("streams", MOST, [&[0, 15, 16], &[0, 1, 14], &[0, 2, 15, 16], &[0]]);
     let mut packets = vec![0; MOST * SIZE];
     rng.fill(&mut packets);
-    make_stream(&mut packets, random_share(rng), rng);
+    make_stream(&mut packets, rng);
     walk.stream(&packets, State { taken: MOST_TAKEN - MOST as u64 / 2, ..State::FIRST }, rng);
     let mut left = ALWAYS + count as usize;
     while left > 0 {
         let stream = &mut packets[..SIZE * (1 + rng.below(MOST)).min(left)];
         left -= stream.len() / SIZE;
-        make_stream(stream, random_share(rng), rng);
+        make_stream(stream, rng);
         let (again, announced) = (rng.below(3) as u64, rng.below(2) as u64);
         let taken = random_taken(stream.len() / SIZE, rng);
         walk.stream(stream, State { again, announced, taken, ..State::FIRST }, rng);
@@ -65,7 +65,7 @@ pub fn compare_files(files: &[String]) -> bool {
 
 pub struct Told {
     first: State,
-    /// The state after each packet. A damaged one leaves it as it was.
+    /// The state after each packet.
     after: Vec<State>,
     /// The log of them all.
     log: Vec<u8>,
@@ -81,44 +81,23 @@ impl Told {
         })
     }
 
-    /// By what each packet does in the state before it, which is not asked of damaged ones. Up to the first that finds no index left.
+    /// By what each packet does in the state before it. Of as many packets as there are indices left.
     pub fn by(first: State, packets: &[u8], mut happened: impl FnMut(State, &[u8]) -> Happened) -> Told {
         let count = packets.len() / SIZE;
         let mut told = Told { first, after: Vec::with_capacity(count), log: Vec::with_capacity(longest_log(count)) };
         let mut state = first;
-        for packet in packets.chunks_exact(SIZE) {
-            if !is_damaged(packet) {
-                if state.taken == MOST_TAKEN {
-                    break;
-                }
-                let happened = happened(state, packet);
-                happened.events.iter().for_each(|event| told.log.extend_from_slice(&event.entry(state.taken as u32)));
-                state = next(state, &happened);
-            }
+        for packet in packets.chunks_exact(SIZE).take((MOST_TAKEN - first.taken) as usize) {
+            let happened = happened(state, packet);
+            happened.events.iter().for_each(|event| told.log.extend_from_slice(&event.entry(state.taken as u32)));
+            state = next(state, &happened);
             told.after.push(state);
         }
         told
     }
 
-    /// The same of the stream without its damaged packets.
-    pub fn without_damaged(&self) -> Told {
-        let intact = (0..self.count()).filter(|nth| !self.is_damaged(*nth));
-        Told { first: self.first, after: intact.map(|nth| self.after[nth]).collect(), log: self.log.clone() }
-    }
-
     /// How many packets it is of.
     pub fn count(&self) -> usize {
         self.after.len()
-    }
-
-    /// Whether a packet is damaged: every other one takes an index.
-    pub fn is_damaged(&self, nth: usize) -> bool {
-        self.before(nth).taken == self.before(nth + 1).taken
-    }
-
-    /// How many packets are taken: all but the damaged ones.
-    fn taken(&self) -> u64 {
-        self.before(self.count()).taken - self.first.taken
     }
 
     /// The state before a packet, or after the last one.
@@ -210,20 +189,16 @@ impl Walk {
         self.steps(told, rng);
         self.runs(told, rng);
         self.entries(told);
-        self.taken += told.taken();
+        self.taken += told.count() as u64;
     }
 
-    /// The same by one run, where no index and no room is lacking, and by one more behind each damaged packet.
+    /// The same by one run, where no index and no room is lacking.
     pub fn one_run(&mut self, packets: &[u8], told: &Told, rng: &mut Rng) {
         self.packets.set(packets, rng.next() as u8);
         self.log.set(&self.filling[..told.log.len()], rng.next() as u8);
         let (count, room) = (self.count(), self.log.len());
-        let damaged = (0..count).filter(|nth| told.is_damaged(*nth));
-        damaged.map(|nth| (nth, 24)).chain([(count, 0)]).fold(0, |from, (to, ended)| {
-            let piece = Piece { from, count: count - from, tail: 0, state: told.before(from), lost: None, room };
-            self.run(told, &piece, Ok(Ran { packets: to - from, ended }));
-            to + 1
-        });
+        let whole = Piece { from: 0, count, tail: 0, state: told.first, lost: None, room };
+        self.run(told, &whole, Ok(Ran { packets: count, ended: 0 }));
     }
 
     fn count(&self) -> usize {
@@ -237,10 +212,6 @@ impl Walk {
         for nth in 0..self.count() {
             let before = State { place, ..told.before(nth) };
             let Some(&after) = told.after.get(nth) else { return self.step(nth, before, 16, before) };
-            if told.is_damaged(nth) {
-                self.step(nth, before, 24, before);
-                continue;
-            }
             let entries = told.entries(nth, 1);
             if room - place < entries.len() {
                 self.step(nth, before, 15, before);
@@ -267,10 +238,8 @@ impl Walk {
             let ran = piece.outcome(told);
             self.run(told, &piece, ran);
             from += ran.map_or(0, |ran| ran.packets);
-            match ran {
-                Ok(Ran { ended: 16, .. }) => return,
-                Ok(Ran { ended: 24, .. }) => from += 1,
-                _ => (),
+            if ran.is_ok_and(|ran| ran.ended == 16) {
+                return;
             }
         }
     }
@@ -354,7 +323,6 @@ impl Piece {
         }
         match told.after.get(nth) {
             None => 16,
-            Some(_) if told.is_damaged(nth) => 24,
             Some(after) if after.place > self.room => 15,
             Some(_) => 0,
         }
@@ -388,36 +356,19 @@ const HEADS: [[u8; 3]; 8] = [[0, 0, 1], [0, 0, 1], [0, 0, 1], [0, 0, 1], [0, 0, 
 
 const LENGTHS: [u8; 8] = [0, 1, 177, 178, 182, 183, 184, 255];
 
-/// How many of 64 packets of a stream are damaged: in half of the streams none, as runs end at one.
-pub fn random_share(rng: &mut Rng) -> usize {
-    [0, 2][rng.below(2)]
+/// Gives each packet a header of its own, and most of those with the start flag a head; the other bytes stay.
+pub fn make_stream(packets: &mut [u8], rng: &mut Rng) {
+    packets.chunks_exact_mut(SIZE).fold(0, |last, packet| make_packet(packet, last, rng));
 }
 
-/// Gives each packet a header of its own, and most of those with the start flag a head; the other bytes stay. Of 64 packets so many are
-/// damaged.
-pub fn make_stream(packets: &mut [u8], share: usize, rng: &mut Rng) {
-    packets.chunks_exact_mut(SIZE).fold(0, |last, packet| match rng.below(64) < share {
-        true => make_damaged(packet, last, rng),
-        false => make_packet(packet, last, rng),
-    });
-}
-
-/// A damaged packet, after one with this counter. Gives the counter that the next one comes after: the same, as if the packet is sent anew,
-/// or the packet's own, as if it is lost.
-pub fn make_damaged(packet: &mut [u8], last: u8, rng: &mut Rng) -> u8 {
-    let counter = make_packet(packet, last, rng);
-    packet[1] |= ERROR_BIT;
-    [last, counter][rng.below(2)]
-}
-
-/// A packet that is not damaged, after one with this counter. Gives its counter.
+/// The same of one packet, after one with this counter. Gives its counter.
 pub fn make_packet(packet: &mut [u8], last: u8, rng: &mut Rng) -> u8 {
     let (random, choice) = (rng.next().to_le_bytes(), rng.next());
     let start = if choice & 3 == 0 { 0x40 } else { 0 };
     let control = random_control(random[2], choice >> 2);
     let counter = random_counter(last, control, random[3], choice >> 8);
     packet[0] = Packet::SYNC_BYTE;
-    packet[1] = start | random[0] & 0x3f;
+    packet[1] = start | random[0] & 0xbf;
     packet[2] = random[1];
     packet[3] = control & 0xf0 | counter;
     packet[4] = random_length(random[4], choice >> 16);

@@ -21,16 +21,14 @@ mod answer;
 mod consumer;
 mod contents;
 mod control;
-mod corner;
-mod damaged;
 #[path = "../clomaverift/src/declarations.rs"]
 mod declarations;
-mod demultiplexer;
 mod differences;
 mod differences_calls;
 mod differences_input;
 mod differences_original;
 mod differences_standard;
+mod differences_whole;
 mod event;
 mod fields;
 mod files;

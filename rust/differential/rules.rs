@@ -1,7 +1,6 @@
 //! The machine's rules as the request has them, written anew: for the two states that no stream brings the oracle to, which are a
 //! phase other than Begin with no last counter. They are held against the oracle in all other states. Those of events are the
-//! standard mode's too (standard_rules.rs), but for StartStream, which each mode gives by a rule of its own. No rule is of a damaged
-//! packet: both modes refuse it.
+//! standard mode's too (standard_rules.rs), but for StartStream, which each mode gives by a rule of its own.
 
 use crate::event::{self, Event, Events};
 use crate::host_machine::{State, BEGIN, IGNORE_REST, NONE, STARTED};
@@ -51,13 +50,6 @@ pub fn accepted(phase: u64, continuous: bool, announces: bool, packet: &[u8]) ->
 /// The most events of packets, but for a StartStream beside others, which the standard mode may give: one for each, and one for each start.
 pub fn most_events<'a>(packets: impl Iterator<Item = &'a [u8]>) -> usize {
     packets.map(|packet| 1 + usize::from(has_start_flag(packet))).sum()
-}
-
-/// The bit of the byte after the sync byte that marks a packet as damaged: transport_error_indicator.
-pub const ERROR_BIT: u8 = 0x80;
-
-pub fn is_damaged(packet: &[u8]) -> bool {
-    packet[1] & ERROR_BIT != 0
 }
 
 pub fn has_start_flag(packet: &[u8]) -> bool {

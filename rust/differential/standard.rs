@@ -2,12 +2,10 @@
 //! (standard_rules.rs).
 
 use crate::answer::Answer;
-use crate::consumer::SIZE;
-use crate::corner::{is_marked, letters, made, made_all};
-use crate::damaged::without_damaged;
-use crate::event::ENTRY;
+use crate::consumer::{start, SIZE};
+use crate::event::{self, decoded, ENTRY};
 use crate::host_machine::{self, State, BEGIN, IGNORE_REST, NONE, STANDARD, STARTED};
-use crate::machine::{compare_first, every_state, packet, with_error_bit, Cases, HEAD, LONGEST_LOG, NO_HEAD};
+use crate::machine::{compare_first, every_state, packet, Cases, HEAD, LONGEST_LOG, NO_HEAD};
 use crate::machine_stream::{Told, Walk};
 use crate::module::{Module, Plan};
 use crate::rng::Rng;
@@ -40,21 +38,17 @@ fn compare(plan: &Plan) -> Vec<Tally> {
 const LENGTHS: [u8; 6] = [0, 1, 182, 183, 184, 255];
 
 /// Every state with every control byte, each of these lengths, the discontinuity bit or what stands in its place, and with the start
-/// flag and a head, with the flag alone and without both; of eight packets one with the error bit too.
+/// flag and a head, with the flag alone and without both.
 fn every_packet(cases: &mut Cases) {
     for state in every_state(STANDARD) {
         for (control, length) in (0..=255).flat_map(|control| LENGTHS.map(|length| (control, length))) {
             for (flags, head) in [(0x00, NO_HEAD), (0x40, HEAD), (0x40, NO_HEAD)] {
                 for bit in [0x00, 0x80] {
                     let random = cases.rng.next();
-                    let mut packet = packet([flags | random as u8 & 0x3f, (random >> 8) as u8, control, length], head);
+                    let mut packet = packet([flags | random as u8 & 0xbf, (random >> 8) as u8, control, length], head);
                     packet[5] = packet[5] & (random >> 16) as u8 & 0x7f | bit;
                     let place = ENTRY * (random >> 24 & 1) as usize;
-                    let state = State { taken: random >> 33, place, ..state };
-                    cases.take(state, &packet, LONGEST_LOG);
-                    if random >> 25 & 7 == 0 {
-                        cases.take(state, &with_error_bit(packet), LONGEST_LOG);
-                    }
+                    cases.take(State { taken: random >> 33, place, ..state }, &packet, LONGEST_LOG);
                 }
             }
         }
@@ -80,9 +74,15 @@ fn compare_bit() -> Tally {
 
 // ---- Corners.
 
-/// Packets one after another, as corner.rs writes them, and what each is to be taken for; then its events from the state before any packet,
-/// and where the first of them comes within a unit.
-const CORNERS: [[&str; 4]; 50] = [
+/// Packets one after another, each with its counter, and what each is to be taken for; then its events from the state before any packet,
+/// and where the first of them comes within a unit: s for StartStream, c for ContinuePacket, e for ContinuityError, n for EndPacket, b for
+/// BeginPacket, and - for none.
+///
+/// The packets are P, with a payload; S, the same with the start flag and a head; A, with an adaptation field alone; T, the same with the
+/// start flag; D and B, P and A with the discontinuity bit; E, D with the start flag and a head. In N, Z and X the bit stands where it
+/// would be in an adaptation field, but there is none: N has the payload flag and a length of 183, which leaves no payload, Z the payload
+/// flag and a length of 0, X no payload flag and a length of 182. O has neither payload nor adaptation field.
+const CORNERS: [[&str; 4]; 35] = [
     ["P5 P5 P5 P5 P5", "on drop break drop break", "- - se - e", "c - e - e"],
     ["P5 A5 P5", "on on break", "- - se", "c - e"],
     ["A5 P5", "on break", "- se", "- e"],
@@ -121,28 +121,11 @@ const CORNERS: [[&str; 4]; 50] = [
     ["T5 P6 T6 T9", "on on on break", "s c n e", "n c n e"],
     ["P5 T9 S10", "on break on", "- se nb", "c e nb"],
     ["P5 E9 E9", "on on on", "- sb nb", "c nb nb"],
-    // A damaged packet is none: the one just before is the last that was accepted. So it hinders no repeat, nor permits one.
-    ["P5 !P5 P5", "on x drop", "- x -", "c x -"],
-    ["P5 !P6 P6", "on x on", "- x -", "c x c"],
-    ["P5 !P6 P7", "on x break", "- x se", "c x e"],
-    ["P5 !P6 P5", "on x drop", "- x -", "c x -"],
-    ["P5 !A5 P5", "on x drop", "- x -", "c x -"],
-    ["A5 !P5 P5", "on x break", "- x se", "- x e"],
-    ["P5 P5 !P5 P5", "on drop x break", "- - x se", "c - x e"],
-    ["P5 !P5 !P6 P5 P5 P6", "on x x drop break on", "- x x - se -", "c x x - e -"],
-    ["P5 D9 !P10 P9", "on on x drop", "- - x -", "c c x -"],
-    // Nor do its discontinuity bit and its start flag say anything.
-    ["P5 !D9 P9", "on x break", "- x se", "c x e"],
-    ["P5 !S6 P6", "on x on", "- x -", "c x c"],
-    ["P5 !S9 P9", "on x break", "- x se", "c x e"],
-    ["P5 !S6 S6 !S7 S7", "on x on x on", "- x sb x nb", "c x nb x nb"],
-    ["!S5 P9 !P9 P9", "x on x drop", "x - x -", "x c x -"],
-    ["!P5 !P5 S9 !T9", "x x on x", "x x sb x", "x x nb x"],
 ];
 
 /// The same from other states: the phase, the last counter, whether the packet before may be repeated, and whether the stream was
 /// announced. In the standard mode the phase alone does not tell that.
-const FROM_STATES: [([u64; 4], [&str; 3]); 25] = [
+const FROM_STATES: [([u64; 4], [&str; 3]); 20] = [
     ([STARTED, 5, 0, 0], ["S6 S7 P8", "on on on", "snb nb c"]),
     ([STARTED, NONE, 0, 0], ["S6", "on", "snb"]),
     ([STARTED, 5, 0, 0], ["P6 P7 S8", "on on on", "c c snb"]),
@@ -163,46 +146,40 @@ const FROM_STATES: [([u64; 4], [&str; 3]); 25] = [
     ([IGNORE_REST, NONE, 0, 0], ["P6 P9", "on break", "- se"]),
     ([IGNORE_REST, 5, 1, 0], ["S5 S6", "drop on", "- sb"]),
     ([IGNORE_REST, 5, 0, 1], ["S6", "on", "b"]),
-    ([STARTED, 5, 1, 0], ["!S5 S5 S6", "x drop on", "x - snb"]),
-    ([STARTED, 5, 2, 0], ["!S5 S5", "x break", "x seb"]),
-    ([STARTED, 5, 0, 1], ["!P5 S5", "x break", "x eb"]),
-    ([BEGIN, NONE, 0, 0], ["!S6 P9 !P10 S10", "x on x on", "x - x sb"]),
-    ([IGNORE_REST, 5, 0, 1], ["!S6 P6 S7", "x on on", "x - b"]),
 ];
 
 /// A row of the tables, with the state that its first packet comes in.
 struct Corner {
     first: State,
     packets: Vec<u8>,
-    /// Of the packets that are not damaged.
     verdicts: Vec<Verdict>,
     events: String,
 }
 
 impl Corner {
     fn new(first: State, [packets, verdicts, events]: [&str; 3]) -> Corner {
-        let verdicts = verdicts.split(' ').filter_map(taken_for).collect();
-        Corner { first, packets: made_all(packets), verdicts, events: events.to_string() }
+        let packets = packets.split(' ').flat_map(made).collect();
+        let verdicts = verdicts.split(' ').map(taken_for).collect();
+        Corner { first, packets, verdicts, events: events.to_string() }
     }
 
     /// After the start of a unit, which announces the stream.
     fn in_a_unit([packets, verdicts, events]: [&str; 3]) -> Corner {
-        let first = made(packets.split(' ').find(|word| !is_marked(word)).expect("a packet"));
+        let first = made(packets.split(' ').next().expect("a packet"));
         let before = (counter(&first) + 16 - u64::from(has_payload_flag(&first))) % 16;
         let (packets, verdicts) = (format!("S{before} {packets}"), format!("on {verdicts}"));
         Corner::new(State::FIRST_STANDARD, [&packets, &verdicts, &format!("sb {events}")])
     }
 
-    /// Whether the rules, by the state and, where it has no counter, by the packets alone, take the packets that are not damaged for what
-    /// is due, and announce the stream where they are told to.
+    /// Whether the rules, by the state and, where it has no counter, by the packets alone, take the packets for what is due, and
+    /// announce the stream where they are told to.
     fn follows(&self, told: &Told) -> bool {
-        let (packets, told) = (without_damaged(&self.packets), &told.without_damaged());
         let due = || self.verdicts.iter().copied();
-        let by_state = packets.chunks_exact(SIZE).enumerate().map(|(nth, packet)| {
+        let by_state = self.packets.chunks_exact(SIZE).enumerate().map(|(nth, packet)| {
             let before = told.before(nth);
             verdict(before.last, before.again, packet)
         });
-        let alone = || verdicts(&packets).eq(due()) && starts_as_alone(&packets, told);
+        let alone = || verdicts(&self.packets).eq(due()) && starts_as_alone(&self.packets, told);
         by_state.eq(due()) && (self.first.last != NONE || alone())
     }
 }
@@ -219,12 +196,12 @@ fn corners() -> impl Iterator<Item = Corner> {
 
 /// Each corner by steps, by runs in pieces, by one run; and against the rules.
 fn compare_corners(rng: &mut Rng) -> Vec<Tally> {
-    let mut walk = Walk::new("standard mode, corners", 8, [&[0, 24], &[0], &[0, 24], &[0]]);
+    let mut walk = Walk::new("standard mode, corners", 8, [&[0], &[0], &[0], &[0]]);
     let mut rules = Tally::of_oracle("standard mode, corners, the rules", &[0]);
     for corner in corners() {
         let mut due = corner.verdicts.iter();
         let told = Told::by(corner.first, &corner.packets, |state, packet| {
-            does(*due.next().expect("one for each packet that is not damaged"), state, packet)
+            does(*due.next().expect("one for each packet"), state, packet)
         });
         let as_due = letters(&told) == corner.events && corner.follows(&told);
         let input = || format!("{:?}, {}", corner.first, hex(&corner.packets));
@@ -235,12 +212,50 @@ fn compare_corners(rng: &mut Rng) -> Vec<Tally> {
     walk.into_tallies().into_iter().chain([rules]).collect()
 }
 
-/// Nothing for a damaged packet.
-fn taken_for(word: &str) -> Option<Verdict> {
-    match word {
-        "on" => Some(Verdict::On),
-        "drop" => Some(Verdict::Dropped),
-        "break" => Some(Verdict::Break),
-        _ => None,
+/// The events of each packet, as the table has them.
+fn letters(told: &Told) -> String {
+    let packets = (0..told.count()).map(|nth| match told.entries(nth, 1) {
+        [] => "-".to_string(),
+        entries => entries.chunks_exact(ENTRY).map(letter).collect(),
+    });
+    packets.collect::<Vec<_>>().join(" ")
+}
+
+fn letter(entry: &[u8]) -> char {
+    match decoded(entry.try_into().expect("an entry")) {
+        Some([event::START, ..]) => 's',
+        Some([event::BEGIN, ..]) => 'b',
+        Some([event::CONTINUE, ..]) => 'c',
+        Some([event::END, ..]) => 'n',
+        _ => 'e',
     }
+}
+
+fn taken_for(word: &str) -> Verdict {
+    match word {
+        "on" => Verdict::On,
+        "drop" => Verdict::Dropped,
+        _ => Verdict::Break,
+    }
+}
+
+/// A packet of the table: its control bits, the length of the adaptation field, and what stands in the fifth byte after the sync byte.
+fn made(word: &str) -> [u8; SIZE] {
+    let (kind, counter) = word.split_at(1);
+    let counter: u8 = counter.parse().expect("a counter");
+    let (control, length, flags) = match kind {
+        "S" => return start(counter),
+        "P" => (0x10, 0xff, 0xff),
+        "A" | "T" => (0x20, 183, 0x00),
+        "B" => (0x20, 183, 0x80),
+        "D" | "E" => (0x30, 1, 0x80),
+        "N" => (0x30, 183, 0x80),
+        "Z" => (0x30, 0, 0x80),
+        "X" => (0x20, 182, 0x80),
+        _ => (0x00, 0xff, 0xff),
+    };
+    let (start, head) = if matches!(kind, "T" | "E") { (0x40, HEAD) } else { (0x00, NO_HEAD) };
+    let mut packet = packet([start, 0x00, control | counter, length], head);
+    packet[5] = flags;
+    packet
 }

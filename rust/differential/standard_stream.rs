@@ -1,16 +1,15 @@
 //! Streams through the event machine in the standard mode, made at random and real: as machine_stream.rs goes over those of the crate's
 //! mode, with the rules of standard_rules.rs for a judge. The rules have two judges themselves: what they say by the packets alone, and
 //! the oracle, over the stream as it would be without repeats and discontinuities. What the request says of StartStream is also looked
-//! for in the library's own log. Of damaged packets no judge is told.
+//! for in the library's own log.
 
 use crate::answer::Answer;
 use crate::consumer::{Oracle, SIZE};
-use crate::damaged::{run_past, without_damaged};
 use crate::event::{self, decoded, Event, ENTRY};
-use crate::host_machine::{State, MOST_TAKEN, NONE, STANDARD};
-use crate::machine_stream::{longest_log, make_damaged, make_packet, random_share, random_taken, Told, Walk};
+use crate::host_machine::{self, State, MOST_TAKEN, NONE, STANDARD};
+use crate::machine_stream::{longest_log, make_packet, random_taken, Told, Walk};
 use crate::rng::Rng;
-use crate::rules::{counter, has_payload_flag, has_start_flag, most_events, ERROR_BIT};
+use crate::rules::{counter, has_payload_flag, has_start_flag, most_events};
 use crate::standard_rules::{announcing, has_discontinuity_bit, verdict, verdicts, NO_MORE};
 use crate::tally::{hex, Tally};
 
@@ -31,7 +30,7 @@ const MOST_OF_SHORT: usize = 16;
 /// indices, and short ones follow it. Of eight others five begin before any packet, of which one is also sent with each packet twice; two
 /// begin in any state; and in one the mode changes.
 pub fn compare_random(count: u64, rng: &mut Rng) -> Vec<Tally> {
-    let mut standard = Standard::new(MOST, [&[0, 15, 16, 24], &[0, 1, 14], &[0, 2, 15, 16, 24], &[0]]);
+    let mut standard = Standard::new(MOST, [&[0, 15, 16], &[0, 1, 14], &[0, 2, 15, 16], &[0]]);
     let mut packets = vec![0; MOST * SIZE];
     rng.fill(&mut packets);
     make_stream(&mut packets, rng);
@@ -102,13 +101,11 @@ impl Standard {
 
     pub fn stream(&mut self, packets: &[u8], first: State, rng: &mut Rng) -> Told {
         let told = self.walk.stream(packets, first, rng);
-        let packets = &packets[..told.count() * SIZE];
-        let (intact, of_intact) = (without_damaged(packets), told.without_damaged());
         if first.last == NONE {
-            self.alone(&intact, &of_intact);
+            self.alone(packets, &told);
         }
-        self.oracle(&intact, &of_intact);
-        self.announcement.stream(first, packets, &intact);
+        self.oracle(packets, &told);
+        self.announcement.stream(packets, &told);
         told
     }
 
@@ -130,7 +127,7 @@ impl Standard {
     /// A stream, and what it gives where packets are sent twice.
     pub fn stream_and_twice(&mut self, packets: &[u8], first: State, rng: &mut Rng) {
         let told = self.stream(packets, first, rng);
-        self.twice.stream(&without_damaged(packets), &told.without_damaged());
+        self.twice.stream(packets, &told);
     }
 
     /// A recording, and the same with each packet sent twice.
@@ -263,9 +260,9 @@ impl Announcement {
         }
     }
 
-    /// A stream, and what of it is not damaged.
-    fn stream(&mut self, first: State, packets: &[u8], intact: &[u8]) {
-        let (events, due) = (self.events(first, packets, intact), announcing(intact));
+    fn stream(&mut self, packets: &[u8], told: &Told) {
+        let (first, packets) = (told.before(0), &packets[..told.count() * SIZE]);
+        let (events, due) = (self.events(first, packets), announcing(packets));
         let index = due.map(|(nth, _)| first.taken + nth as u64);
         let agrees = events.as_ref().is_some_and(|events| {
             starts_at_most_once(events, first) && (!is_fresh(first) || begins_with_start(events, index))
@@ -279,14 +276,14 @@ impl Announcement {
         tally.take_check(&Answer::done(&[]), agrees, input, given);
     }
 
-    /// The events of runs over the packets with a log that is just long enough; nothing where they do not take all that are not damaged.
-    fn events(&mut self, first: State, packets: &[u8], intact: &[u8]) -> Option<Vec<[u64; 4]>> {
-        let mut state = State { place: 0, ..first };
+    /// The events of a run over the packets with a log that is just long enough; nothing where it does not take them all.
+    fn events(&mut self, first: State, packets: &[u8]) -> Option<Vec<[u64; 4]>> {
+        let (mut state, mut ran) = (State { place: 0, ..first }, [0; 2]);
         self.packets.clear();
         self.packets.extend_from_slice(packets);
-        self.log.resize(ENTRY * most_from(first, intact), 0);
-        let taken = run_past(&mut state, &mut self.packets, &mut self.log)?;
-        let all = taken == (intact.len() / SIZE) as u64;
+        self.log.resize(ENTRY * most_from(first, packets), 0);
+        let word = host_machine::run(&mut state, &mut self.packets, &mut self.log, &mut ran);
+        let all = word == 0 && ran == [(packets.len() / SIZE) as u64, 0];
         events_of(self.log.get(..state.place).filter(|_| all)?).collect()
     }
 
@@ -330,7 +327,7 @@ fn events_of(entries: &[u8]) -> impl Iterator<Item = Option<[u64; 4]>> + '_ {
 
 // ---- Each packet twice.
 
-/// Packets that are sent twice give the library's events of packets that are sent once, also where a damaged one comes between the two.
+/// Packets that are sent twice give the library's events of packets that are sent once.
 struct Twice {
     tally: Tally,
     once: Sent,
@@ -342,7 +339,7 @@ struct Twice {
 struct Sent {
     packets: Vec<u8>,
     log: Vec<u8>,
-    /// The number of each packet that is not damaged, where the second ones are not counted.
+    /// The number of each packet, where the second ones are not counted.
     nth: Vec<u64>,
 }
 
@@ -368,9 +365,6 @@ impl Twice {
         for (packet, nth) in packets.chunks_exact(SIZE).zip(0..) {
             self.once.send(packet, nth);
             self.twice.send(packet, nth);
-            if nth % 4 == 0 {
-                self.twice.send_damaged(packet);
-            }
             if may_come_twice(packet) {
                 self.twice.send(packet, nth);
             }
@@ -408,18 +402,12 @@ impl Sent {
         self.nth.push(nth);
     }
 
-    fn send_damaged(&mut self, packet: &[u8]) {
-        self.packets.extend_from_slice(packet);
-        let at = self.packets.len() - SIZE;
-        self.packets[at + 1] |= ERROR_BIT;
-    }
-
-    /// How many bytes of the log runs over the packets write, where they take all that are not damaged.
+    /// How many bytes of the log a run over the packets writes, where it takes them all.
     fn run(&mut self) -> Option<usize> {
-        let mut state = State::FIRST_STANDARD;
+        let (mut state, mut ran) = (State::FIRST_STANDARD, [0; 2]);
         self.log.resize(longest_log(self.nth.len()), 0);
-        let taken = run_past(&mut state, &mut self.packets, &mut self.log)?;
-        (taken == self.nth.len() as u64).then_some(state.place)
+        let word = host_machine::run(&mut state, &mut self.packets, &mut self.log, &mut ran);
+        (word == 0 && ran == [self.nth.len() as u64, 0]).then_some(state.place)
     }
 
     /// The events in these bytes of the log, each with the number of its packet; nothing for one that is no entry.
@@ -435,31 +423,22 @@ impl Sent {
 
 /// As a station sends them that sends packets twice, and now and then too often: a packet of eight is the one before again, and after
 /// such a one every second. Of the others a few are exchanged with the one before, and of those with an adaptation field an eighth have
-/// the discontinuity bit. Damaged packets stand between these: the one before is the last that is not damaged.
+/// the discontinuity bit.
 fn make_stream(packets: &mut [u8], rng: &mut Rng) {
-    let (mut last, mut repeated, mut before_at, share) = (0, false, None, random_share(rng));
+    let (mut last, mut repeated) = (0, false);
     for at in (0..packets.len()).step_by(SIZE) {
-        let (sent, rest) = packets.split_at_mut(at);
-        let packet = &mut rest[..SIZE];
-        if rng.below(64) < share {
-            last = make_damaged(packet, last, rng);
+        let (choice, mask) = (rng.next(), if repeated { 1 } else { 7 });
+        repeated = at > 0 && choice & mask == 0;
+        if repeated {
+            packets.copy_within(at - SIZE..at, at);
+            change_payload(&mut packets[at..at + SIZE], choice >> 3);
             continue;
         }
-        let before = before_at.replace(at).map(|from: usize| &mut sent[from..from + SIZE]);
-        let (choice, mask) = (rng.next(), if repeated { 1 } else { 7 });
-        repeated = before.is_some() && choice & mask == 0;
-        match before {
-            Some(before) if repeated => {
-                packet.copy_from_slice(before);
-                change_payload(packet, choice >> 3);
-            }
-            before => {
-                last = make_packet(packet, last, rng);
-                set_field(packet, choice >> 3);
-                if let Some(before) = before.filter(|_| choice >> 16 & 63 == 0) {
-                    before.swap_with_slice(packet);
-                }
-            }
+        last = make_packet(&mut packets[at..at + SIZE], last, rng);
+        set_field(&mut packets[at..at + SIZE], choice >> 3);
+        if at > 0 && choice >> 16 & 63 == 0 {
+            let (before, after) = packets[at - SIZE..at + SIZE].split_at_mut(SIZE);
+            before.swap_with_slice(after);
         }
     }
 }

@@ -10,7 +10,6 @@ use crate::lent::Lent;
 use crate::machine::{Call, Ran, Runs};
 use crate::reading::Reading;
 use crate::rng::Rng;
-use crate::rules::is_damaged;
 use crate::tally::{hex, Tally};
 use crate::unit::CARRIED;
 use crate::{contents, head, packet};
@@ -95,11 +94,9 @@ impl ReadBack {
         }
     }
 
-    /// Where a sync byte is missing, the oracle takes no packets, and where one is damaged, the library does not; a difference has been
-    /// seen then.
+    /// Where a sync byte is missing, the oracle takes no packets, and a difference has been seen.
     pub fn read(&mut self, mut written: Written, rng: &mut Rng) {
-        let is_sound = |packet: &[u8]| packet[0] == Packet::SYNC_BYTE && !is_damaged(packet);
-        if !written.bytes().chunks_exact(SIZE).all(is_sound) {
+        if written.bytes().iter().step_by(SIZE).any(|byte| *byte != Packet::SYNC_BYTE) {
             return;
         }
         self.read_packets(&mut written);

@@ -9,7 +9,6 @@ use crate::host_writer::Unit;
 use crate::input::Input;
 use crate::reading::Readings;
 use crate::rng::Rng;
-use crate::rules::ERROR_BIT;
 use crate::standard_stream::Standard;
 use crate::writer::Case;
 use crate::{adaptation, contents, control, gather, gather_stream, head, machine, machine_stream, packet, stream};
@@ -80,27 +79,17 @@ impl Cases {
     }
 
     /// Whole packets of one stream, through the machine in one of its modes, from any state, and the store. They are given their sync
-    /// bytes: the walk takes some away. The machine takes them as they are, and once more with the error bit of one of them changed: where
-    /// it is set, the packet is refused, and the walk goes on behind it.
+    /// bytes: the walk takes some away.
     fn stream(&mut self, mut input: Input, mut rng: Rng) {
         let first = state(&mut input);
         let mut packets = input.rest(PACKETS * SIZE).to_vec();
         packets.truncate(packets.len() / SIZE * SIZE);
         packets.iter_mut().step_by(SIZE).for_each(|byte| *byte = Packet::SYNC_BYTE);
-        self.machine(&packets, first, &mut rng);
-        if !packets.is_empty() {
-            let nth = rng.below(packets.len() / SIZE);
-            packets[SIZE * nth + 1] ^= ERROR_BIT;
-            self.machine(&packets, first, &mut rng);
+        match first.mode {
+            STANDARD => self.standard_events.stream_and_twice(&packets, first, &mut rng),
+            _ => _ = self.events.stream(&packets, first, &mut rng),
         }
         self.gathered.stream(&packets, &mut rng);
-    }
-
-    fn machine(&mut self, packets: &[u8], first: State, rng: &mut Rng) {
-        match first.mode {
-            STANDARD => self.standard_events.stream_and_twice(packets, first, rng),
-            _ => _ = self.events.stream(packets, first, rng),
-        }
     }
 
     /// A slice of any length, through the readings of one module.
@@ -109,18 +98,13 @@ impl Cases {
         self.readings[module].compare(input.rest(LONGEST), rng.next() as u8);
     }
 
-    /// One packet with any row for a state and a log of any length, by a step and by a run; and with its error bit changed.
+    /// One packet with any row for a state and a log of any length, by a step and by a run.
     fn step(&mut self, mut input: Input, rng: Rng) {
         let [mode, phase, last, again, announced, taken, place] = [(); 7].map(|()| input.long());
         let state = State { mode, phase, last, again, announced, taken, place: place as usize };
         let room = usize::from(input.byte()) % (machine::LONGEST_LOG + 1);
         self.steps.rng = rng;
-        let mut packet = input.rest(machine::LONGEST_PACKET).to_vec();
-        self.steps.take(state, &packet, room);
-        if let Some(byte) = packet.get_mut(1) {
-            *byte ^= ERROR_BIT;
-            self.steps.take(state, &packet, room);
-        }
+        self.steps.take(state, input.rest(machine::LONGEST_PACKET), room);
     }
 
     /// One event with any row for a state and a store of any length.

@@ -18,14 +18,8 @@ mod consumer;
 mod contents;
 #[path = "../differential/control.rs"]
 mod control;
-#[path = "../differential/corner.rs"]
-mod corner;
-#[path = "../differential/damaged.rs"]
-mod damaged;
 #[path = "../clomaverift/src/declarations.rs"]
 mod declarations;
-#[path = "../differential/demultiplexer.rs"]
-mod demultiplexer;
 #[path = "../differential/event.rs"]
 mod event;
 #[path = "../differential/files.rs"]

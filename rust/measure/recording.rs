@@ -60,14 +60,9 @@ struct Sides {
     machine: Machine<Entries<Vec<u8>>>,
 }
 
-/// The packets without the error bit: the library refuses the others, and the Rust takes them.
-fn undamaged(bytes: &[u8]) -> Vec<u8> {
-    bytes.chunks_exact(Packet::SIZE).filter(|packet| packet[1] & 0x80 == 0).flatten().copied().collect()
-}
-
 impl Recording {
     fn read(file: String, advances: Advances) -> Option<Recording> {
-        let packets = by_pid(&undamaged(&fs::read(file).ok()?)).into_values().max_by_key(Vec::len)?;
+        let packets = by_pid(&fs::read(file).ok()?).into_values().max_by_key(Vec::len)?;
         let count = packets.len() / Packet::SIZE;
         let sides =
             Sides { state: State::FIRST, machine: Machine::new(Entries { log: vec![0; count * MOST], place: 0 }) };

@@ -191,8 +191,8 @@ module _ (xs x : List ℕ) (r : PartRead) (p n : ℕ) (e : r ≡ PartRead.Done p
 -- ---- the fields of the extension
 
 module _ (xs : List ℕ) where
-  window-of : field xs 9 15 ≡ get_or xs 1 0 % 128 * 256 + get_or xs 2 0 % 256
-  window-of = omega (arith, field-split xs 9 7 8, in_byte xs 1 1 7 0 refl, in_byte xs 2 0 8 0 refl)
+  window_of : field xs 9 15 ≡ get_or xs 1 0 % 128 * 256 + get_or xs 2 0 % 256
+  window_of = omega (arith, field-split xs 9 7 8, in_byte xs 1 1 7 0 refl, in_byte xs 2 0 8 0 refl)
 
   module _ (h : length xs ≡ 0 → ⊥) (f : flag xs ltw_bit ≡ true) (l : 3 ≤ length xs) where
     pub window-not-valid : flag xs (8 * ltw_at) ≡ false → answer 0 (0 ∷ []) ≡ read_ltw xs
@@ -201,7 +201,7 @@ module _ (xs : List ℕ) where
     pub window_valid : (u v : ℕ) → flag xs (8 * ltw_at) ≡ true → (u ≡ get_or xs 1 0) × (u < 256) → (v ≡ get_or xs 2 0) × (v < 256)
         → answer 0 (1 ∷ (u % 128 * 256 + v) ∷ []) ≡ read_ltw xs
     window_valid u v w i j =
-        let e : u % 128 * 256 + v ≡ field xs 9 15 = omega (arith, window-of) in
+        let e : u % 128 * 256 + v ≡ field xs 9 15 = omega (arith, window_of) in
         rw (w, e) (there 11 ltw_bit 3 xs (answer 0 (1 ∷ field xs 9 15 ∷ [])) h f l)
 
   rate-first : field xs 2 22 ≡ get_or xs 0 0 % 64 * 65536 + get_or xs 1 0 % 256 * 256 + get_or xs 2 0 % 256

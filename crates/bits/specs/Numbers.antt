@@ -84,7 +84,3 @@ no_room = 19
 -- gathering: the unit would exceed the store
 abbrev pub store_full : ℕ
 store_full = 20
-
--- machine: transport_error_indicator is set
-abbrev pub damaged : ℕ
-damaged = 24

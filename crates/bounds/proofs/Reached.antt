@@ -17,7 +17,7 @@ use Rattle.control.specs.declared.Compared.TheVariants.{Jump}
 use Rattle.control.specs.Control.{compare}
 use Rattle.control.proofs.Laws.{payload-bit, adaptation-bit, compared-next, compared_jump}
 use Rattle.control.proofs.Laws.{counter-is as byte-counter}
-use Rattle.packet.specs.Packet.{error_flag, start_flag, counter_field, adaptation_flag, payload_flag, adaptation_there, content_at, payload_there}
+use Rattle.packet.specs.Packet.{start_flag, counter_field, adaptation_flag, payload_flag, adaptation_there, content_at, payload_there}
 use Rattle.packet.proofs.Laws.{counter-is, content_plain}
 use Rattle.packet.proofs.Theorems.{control-payload, control-adaptation}
 use Rattle.pes.specs.Head.{not_head}
@@ -35,12 +35,12 @@ use Rattle.machine.specs.declared.Machine.{Machine}
 use Rattle.machine.specs.Events.{as_counter, State, state, head_accepted, discontinuity, continuity_by, continuity, calls, due, announces, announcement}
 use Rattle.machine.specs.Events.{ended, begun, continued, events_of, next, run}
 use Rattle.machine.specs.Step.{state_of, fresh, events_at, number_of, advanced, Outcome, outcome, step_of, log_of, Stands}
-use Rattle.machine.specs.Run.{packets_in, run_of, taken_of, Reported, report_of, Undamaged, start_flags, Logged}
+use Rattle.machine.specs.Run.{packets_in, run_of, taken_of, Reported, report_of, IsPacket, start_flags, Logged}
 use Rattle.machine.specs.History.{first}
 use Rattle.machine.proofs.Counters.{on-first, on-next}
 use Rattle.machine.proofs.Laws.{refused-log, no-refusal, stands_good, run-count, run-over}
 use Rattle.machine.proofs.History.{last-is}
-use Rattle.machine.proofs.Slices.{undamaged-packets, flat-length, packets-flat}
+use Rattle.machine.proofs.Slices.{flat-length, packets-flat}
 use Rattle.machine.proofs.Theorems.{events-are, phase-then, left_in, none_left, started-next, stands-next, run-full, run-logged}
 use Rattle.bounds.specs.Room.{log_bytes, more, more_in, Full}
 use Rattle.bounds.specs.Reaching.{eventful, reaching, inputs, breaking, late, waiting, Speak, Reaches}
@@ -53,19 +53,14 @@ unfolding start_flag bit eventful
 start_of true c = refl
 start_of false c = refl
 
-clear_of : (b : Bool) (c : ℕ) → error_flag (eventful b c) ≡ false
-unfolding error_flag bit eventful
-clear_of true c = refl
-clear_of false c = refl
-
 all_same : (P : ℕ → Type 0) (n x : ℕ) → P x → All P (replicate n x)
 all_same P zero x h = tt
 all_same P (suc n) x h = (h, all_same P n x h)
 
 module _ (b : Bool) (c : ℕ) where
-  undamaged : Undamaged (eventful b c)
+  is-packet : IsPacket (eventful b c)
   unfolding eventful
-  undamaged = (refl, refl, clear_of b c)
+  is-packet = (refl, refl)
 
   are-bytes : Bytes (eventful b c)
   unfolding eventful
@@ -92,12 +87,12 @@ module _ (b : Bool) (c : ℕ) where
   unfolding eventful
   counter-of = omega (arith, counter-is (eventful b c), byte-counter four)
 
-  content-of : content_at (eventful b c) ≡ 4
-  content-of = content_plain (eventful b c) no_field
+  content_of : content_at (eventful b c) ≡ 4
+  content_of = content_plain (eventful b c) no_field
 
-  payload-of : payload_there (eventful b c) ≡ true
+  payload_of : payload_there (eventful b c) ≡ true
   unfolding payload_there
-  payload-of = rw (has-flag, content-of) refl
+  payload_of = rw (has-flag, content_of) refl
 
   head_of : head_accepted (drop 4 (eventful b c)) ≡ true
   unfolding eventful head_accepted not_head bit field
@@ -106,11 +101,11 @@ module _ (b : Bool) (c : ℕ) where
   -- one event with the payload
   begun-of : (i : ℕ) → length (begun i (eventful b c)) ≡ 1
   unfolding begun
-  begun-of i = rw (payload-of, content-of, head_of) refl
+  begun-of i = rw (payload_of, content_of, head_of) refl
 
   continued-of : (i : ℕ) → length (continued Started i (eventful b c)) ≡ 1
   unfolding continued
-  continued-of i = rw payload-of refl
+  continued-of i = rw payload_of refl
 
 -- ---- within a stream that was announced: two events with the start flag, one without it
 
@@ -128,7 +123,7 @@ module _ (b : Bool) (c : ℕ) (s : State) (g : Going c s) where
   goes : continuity s this ≡ GoesOn
   goes =
       ap (λ (l : Last). continuity_by s.mode l s.again this) g.2
-      ∙ on-next s.mode (as_counter (c % 16)) s.again this (payload-of b (suc c))
+      ∙ on-next s.mode (as_counter (c % 16)) s.again this (payload_of b (suc c))
       (ap (λ (n : ℕ). compare n (c % 16)) (counter-of b (suc c)) ∙ sym (compared-next (suc c % 16) (c % 16) (omega arith)))
 
   events-on : (i : ℕ) → length (events_of i s this) ≡ pick b 2 1
@@ -195,7 +190,7 @@ module _ (c i k : ℕ) (t : State) (h : calls (continuity t (eventful true c)) t
   all_reach (suc s) p m u v f w = record {
     packets = omega (arith, reaching-length (suc s) (p - suc s) c);
     flagged = reaching-starts (suc s) (p - suc s) c;
-    domain = reaching-all Undamaged undamaged (suc s) (p - suc s) c;
+    domain = reaching-all IsPacket is-packet (suc s) (p - suc s) c;
     bytes = reaching-all Bytes are-bytes (suc s) (p - suc s) c;
     events = omega (arith, started-run s (p - suc s));
     each = started-each f s (p - suc s);
@@ -278,9 +273,9 @@ waiting-more = refl
 pub waiting-is : (l : List ℕ) → step_of (fresh Standard) (eventful false 5) l ≡ outcome done waiting
 unfolding step_of
 waiting-is l =
-    let k = undamaged false 5 in
+    let k = is-packet false 5 in
     let z : number_of (fresh Standard) (eventful false 5) l ≡ 0
-    = no-refusal (fresh Standard) (eventful false 5) l k (refl, omega arith, refl) (λ e. omega arith) [] (sym late-none) (omega arith) in
+    = no-refusal (fresh Standard) (eventful false 5) l k.0 k.1 (refl, omega arith, refl) (λ e. omega arith) [] (sym late-none) (omega arith) in
     rw z (ap (outcome done) waiting-next)
 
 -- ---- with one entry less the last packet is refused
@@ -290,23 +285,23 @@ unfolding run
 each-run [] i s h = omega arith
 each-run (p ∷ ps) i s h = simp length-append (omega (arith, h.0, each-run ps (suc i) (next s p) h.1))
 
-all_but_last : (p : List ℕ) (ps : List (List ℕ)) (m : Machine) (l : List ℕ) → Stands m l → All Undamaged (p ∷ ps) → m.taken + suc (length ps) ≤ 4_294_967_295
+all_but_last : (p : List ℕ) (ps : List (List ℕ)) (m : Machine) (l : List ℕ) → Stands m l → All IsPacket (p ∷ ps) → m.taken + suc (length ps) ≤ 4_294_967_295
     → Speak m.taken (state_of m) (p ∷ ps) → length l + 8 ≡ m.place + 8 * length (run m.taken (state_of m) (p ∷ ps)) → taken_of m (p ∷ ps) l ≡ length ps
 unfolding step_of log_of advanced next run
 all_but_last p [] m l s w t h e =
-    let z = refused-log m p l w.0 s (λ y. omega arith) (events_at m p) refl (omega (arith, h.0, e, s.1, length-append (events_at m p) [])) in
+    let z = refused-log m p l w.0.0 w.0.1 s (λ y. omega arith) (events_at m p) refl (omega (arith, h.0, e, s.1, length-append (events_at m p) [])) in
     let n : number_of m p l ≡ 15 = sym (ap (λ (o : Outcome). o.number) z.0) in
     simp n
 all_but_last p (q ∷ ps) m l s w t h e =
     let es = events_at m p in
     let k = length-append es (run (suc m.taken) (next (state_of m) p) (q ∷ ps)) in
     let f : 8 * length es ≤ length l - m.place = omega (arith, e, k, s.1, each-run (q ∷ ps) (suc m.taken) (next (state_of m) p) h.1) in
-    let z = no-refusal m p l w.0 s (λ y. omega arith) es refl f in
+    let z = no-refusal m p l w.0.0 w.0.1 s (λ y. omega arith) es refl f in
     simp z
     (ap suc (all_but_last q ps (advanced m p) (sets l m.place (entries_bytes es)) (stands-next m p l s f) w.1 (omega arith) h.1
     (omega (arith, e, k, length-sets l m.place (entries_bytes es)))))
 
-but_last : (ps : List (List ℕ)) (m : Machine) (l : List ℕ) → Stands m l → All Undamaged ps → m.taken + length ps ≤ 4_294_967_295
+but_last : (ps : List (List ℕ)) (m : Machine) (l : List ℕ) → Stands m l → All IsPacket ps → m.taken + length ps ≤ 4_294_967_295
     → Speak m.taken (state_of m) ps → length l + 8 ≡ m.place + 8 * length (run m.taken (state_of m) ps) → taken_of m ps l + 1 ≡ length ps
 unfolding run
 but_last [] m l s w t h e = absurd (omega (arith, s.1))
@@ -316,18 +311,18 @@ but_last (p ∷ ps) m l s w t h e = omega (arith, all_but_last p ps m l s w t h 
 
 module _ (m : Machine) (l : List ℕ) (p s n : ℕ) (ps : List (List ℕ)) (g : Reaches (state_of m) m.taken p s n ps) (h : Stands m l) (t : m.taken + p ≤ 4_294_967_295) where
   whole : length (flat ps) % 188 ≡ 0
-  whole = omega (arith, flat-length ps (undamaged-packets ps g.domain))
+  whole = omega (arith, flat-length ps g.domain)
 
   pub log-enough : m.place + 8 * n ≤ length l → Logged m (flat ps) l p (run m.taken (state_of m) ps)
   log-enough r =
-      let e = packets-flat ps (undamaged-packets ps g.domain) in
+      let e = packets-flat ps g.domain in
       run-logged m (flat ps) l p (run m.taken (state_of m) ps) h whole (rw e g.domain) (ap length e ∙ g.packets)
       (ap (run m.taken (state_of m)) e) t (omega (arith, g.events))
 
   pub log-short : length l < m.place + 8 * n → Full m ps l
   log-short r =
       let f = run-full ps m l h g.domain (omega (arith, g.packets)) (omega (arith, g.events)) in
-      let e : run_of m (packets_in (flat ps)) l ≡ run_of m ps l = ap (λ (qs : List (List ℕ)). run_of m qs l) (packets-flat ps (undamaged-packets ps g.domain)) in
+      let e : run_of m (packets_in (flat ps)) l ≡ run_of m ps l = ap (λ (qs : List (List ℕ)). run_of m qs l) (packets-flat ps g.domain) in
       let o = run_of m (packets_in (flat ps)) l in
       let k = (run-over m (flat ps) l whole (stands_good m l h) o.answer _ o.log refl refl refl).0 in
       record {
@@ -339,7 +334,7 @@ module _ (m : Machine) (l : List ℕ) (p s n : ℕ) (ps : List (List ℕ)) (g : 
   -- one entry less, and all but the last are taken
   pub last-refused : length l + 8 ≡ m.place + 8 * n → (report_of m (flat ps) l).packets + 1 ≡ p
   last-refused r =
-      let e : taken_of m (packets_in (flat ps)) l ≡ taken_of m ps l = ap (λ (qs : List (List ℕ)). taken_of m qs l) (packets-flat ps (undamaged-packets ps g.domain)) in
+      let e : taken_of m (packets_in (flat ps)) l ≡ taken_of m ps l = ap (λ (qs : List (List ℕ)). taken_of m qs l) (packets-flat ps g.domain) in
       let o = run_of m (packets_in (flat ps)) l in
       let k = (run-over m (flat ps) l whole (stands_good m l h) o.answer _ o.log refl refl refl).0 in
       let q = but_last ps m l h g.domain (omega (arith, g.packets)) g.each (omega (arith, r, g.events)) in

@@ -116,9 +116,9 @@ pub first-bound : (i : ℕ) (mo : Mode) (ps : List (List ℕ)) → length (run i
 first-bound i mo ps = omega (arith, events-bound i (first mo) ps, first-none mo)
 
 -- with no start flag the crate's mode gives fewer than p from there: its first packet has no event
-pub without-start : (i : ℕ) (p : List ℕ) (ps : List (List ℕ)) → start_flags (p ∷ ps) ≡ 0 → length (run i (first Crate) (p ∷ ps)) ≤ length ps
+pub without_start : (i : ℕ) (p : List ℕ) (ps : List (List ℕ)) → start_flags (p ∷ ps) ≡ 0 → length (run i (first Crate) (p ∷ ps)) ≤ length ps
 unfolding run announcement announces continued
-without-start i p ps h = rw (silent (start_flag p) refl) (omega (arith, crate_bound (suc i) (next (first Crate) p) ps (mode-stays (first Crate) p)))
+without_start i p ps h = rw (silent (start_flag p) refl) (omega (arith, crate_bound (suc i) (next (first Crate) p) ps (mode-stays (first Crate) p)))
   where
     silent : (b : Bool) → start_flag p ≡ b → events_of i (first Crate) p ≡ []
     silent true e = let z : ◌≡◌ {A = ℕ} 1 0 = omega (arith, ap (λ (b : Bool). pick {A = ℕ} b 1 0) e) in absurd (omega arith)

@@ -10,7 +10,7 @@ use Rattle.machine.specs.declared.Repeat.TheVariants.{Open}
 use Rattle.machine.specs.declared.Machine.{Machine}
 use Rattle.machine.specs.Events.{as_counter, State, events_of, next, run}
 use Rattle.machine.specs.Step.{machine}
-use Rattle.machine.specs.Run.{Undamaged, start_flags}
+use Rattle.machine.specs.Run.{IsPacket, start_flags}
 
 -- a packet of PID 256 with 184 bytes of payload, which begin with the header of an unbounded video unit; its counter is c modulo 16
 unfoldable pub eventful : Bool → ℕ → List ℕ
@@ -46,11 +46,11 @@ abbrev pub Speak : ℕ → State → List (List ℕ) → Type 0
 Speak i from [] = Unit {0}
 Speak i from (p ∷ ps) = (1 ≤ length (events_of i from p)) × Speak (suc i) (next from p) ps
 
--- p packets of 188 bytes with sync and the error bit clear, s of them with the start flag, give n events from a state on, and each at least one
+-- p packets of 188 bytes with sync, s of them with the start flag, give n events from a state on, and each at least one
 pub record Reaches (from : State) (i p s n : ℕ) (ps : List (List ℕ)) : Type 0 where
   pub packets : length ps ≡ p
   pub flagged : start_flags ps ≡ s
-  pub domain : All Undamaged ps
+  pub domain : All IsPacket ps
   pub bytes : All Bytes ps
   pub events : length (run i from ps) ≡ n
   pub each : Speak i from ps

@@ -21,7 +21,7 @@ use Rattle.writer.specs.Packets.{header_image, carrier, carried}
 use Rattle.capacity.specs.Accepted.{PacketRead, PacketsRead, HeaderRead}
 use Rattle.capacity.proofs.Permits.{UnitFits}
 use Rattle.capacity.proofs.HeaderBack.{headed_back, id-back, length_back_lem, accepted-back, fields_back, payload-is, rest-given}
-use Rattle.capacity.proofs.Carrier.{undamaged, rest-clear, start_back, pid-back, counter-back, content_back, field_back_lem}
+use Rattle.capacity.proofs.Carrier.{is-packet, rest-clear, start_back, pid-back, counter-back, content_back, field_back_lem}
 use Rattle.capacity.proofs.Carrier.{payload-back}
 use Rattle.capacity.proofs.Carried.{Takes, takes-rest, chunk-length}
 
@@ -34,7 +34,7 @@ module _ (b : Bool) (id c : ℕ) (xs : List ℕ) (low : 1 ≤ length xs) (high :
   read_made : PacketRead b id c (length xs) made
   unfolding start_flag scrambling
   read_made =
-      let w = undamaged (truth b) id c xs high in
+      let w = is-packet (truth b) id c xs high in
       let r = packet-is made w.0 w.1 in
       let z = rest-clear (truth b) id c xs in
       let q = content_back (truth b) id c xs high in

@@ -27,12 +27,12 @@ use Rattle.machine.proofs.Counters.{on-first, on-next}
 use Rattle.machine.proofs.Laws.{due-plain, or_false}
 use Rattle.gather.specs.Belongs.{event_bytes}
 use Rattle.writer.specs.Packets.{carrier, carried}
-use Rattle.machine.specs.Run.{Undamaged}
+use Rattle.machine.specs.Run.{IsPacket}
 use Rattle.units.specs.Units.{bytes_at, bytes_at_all}
 use Rattle.capacity.specs.Reads.{up_to_begin, segment, segments}
 use Rattle.capacity.specs.Demand.{Before, at_start, end_of, continues_of, events_written, Counters}
 use Rattle.capacity.proofs.Carrier.{start_back, pid-back, flag-back, counter-back, content_back, payload-back, rest_back, part-back}
-use Rattle.capacity.proofs.Carrier.{undamaged}
+use Rattle.capacity.proofs.Carrier.{is-packet}
 
 -- ---- one packet
 
@@ -162,11 +162,11 @@ one-segment s k m = rw (past-opened s 0, up-continues (k - 1) 1 (m - 184), none-
 
 -- ---- k packets
 
-pub made_undamaged : (k start id c : ℕ) (xs : List ℕ) → All Undamaged (carried k start id c xs)
+pub made-packets : (k start id c : ℕ) (xs : List ℕ) → All IsPacket (carried k start id c xs)
 unfolding carried
-made_undamaged zero start id c xs = tt
-made_undamaged (suc k) start id c xs =
-    (undamaged start id c (take 184 xs) (omega (arith, length-take 184 xs)), made_undamaged k 0 id ((c + 1) % 16) (drop 184 xs))
+made-packets zero start id c xs = tt
+made-packets (suc k) start id c xs =
+    (is-packet start id c (take 184 xs) (omega (arith, length-take 184 xs)), made-packets k 0 id ((c + 1) % 16) (drop 184 xs))
 
 pub made-pids : (k start id c : ℕ) (xs : List ℕ) → id < 2 ^ 13 → All (λ (p : List ℕ). pid_field p ≡ id) (carried k start id c xs)
 unfolding carried

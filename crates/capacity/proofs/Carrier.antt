@@ -16,11 +16,11 @@ use Rattle.bits.proofs.Bools.{truth-mod}
 use Rattle.bits.proofs.Fields.{field-one, field-right, byte-field, truth-bit}
 use Rattle.bits.proofs.Packs.{length-bytes_of, RowIn, RowFits, row-front}
 use Rattle.packet.specs.Packet.{pid_field, counter_field, adaptation_flag, payload_flag, adaptation_length, adaptation_there, read_adaptation}
-use Rattle.packet.specs.Packet.{error_flag, start_flag, content_at, payload_there}
+use Rattle.packet.specs.Packet.{start_flag, content_at, payload_there}
 use Rattle.packet.proofs.Laws.{packet-is}
 use Rattle.writer.specs.Packets.{packet_table, stuffing, carrier}
 use Rattle.writer.proofs.Laws.{stuffing-length}
-use Rattle.machine.specs.Run.{Undamaged}
+use Rattle.machine.specs.Run.{IsPacket}
 
 stuffing-first : (r : ℕ) (xs : List ℕ) → r < 184 → get_or (stuffing r ++ xs) 0 0 ≡ 183 - r
 unfolding stuffing
@@ -52,10 +52,6 @@ module _ (start id c : ℕ) (xs : List ℕ) where
       let f = row_back 3 (omega arith) (omega arith) in
       (sym (field-one made 8) ∙ e, sym (field-one made 10) ∙ f, row_back 5 (omega arith) (omega arith))
 
-  error_clear : error_flag made ≡ false
-  unfolding error_flag
-  error_clear = ap (λ (n : ℕ). eqb n 1) rest-clear.0
-
   pub start_back : (b : Bool) → start ≡ truth b → start_flag made ≡ b
   unfolding start_flag
   start_back b h =
@@ -81,12 +77,12 @@ module _ (start id c : ℕ) (xs : List ℕ) where
       ap (λ (n : ℕ). eqb n 1) (sym (field-one made 26) ∙ (row_back 6 (omega arith) (omega arith) ∙ truth-mod b)) ∙ truth-bit b
 
   module _ (high : length xs ≤ 184) where
-    pub undamaged : Undamaged made
+    pub is-packet : IsPacket made
     unfolding carrier
-    undamaged =
+    is-packet =
         let s = stuffing (length xs) in
         let n = length-append (bytes_of 4 (joined table)) (s ++ xs) in
-        (omega (arith, four-length, stuffing-length (length xs) high, length-append s xs, n), sync_byte, error_clear)
+        (omega (arith, four-length, stuffing-length (length xs) high, length-append s xs, n), sync_byte)
 
     length-byte : length xs < 184 → adaptation_length made ≡ 183 - length xs
     unfolding carrier adaptation_length
@@ -120,7 +116,7 @@ module _ (start id c : ℕ) (xs : List ℕ) where
     -- with n bytes of payload the adaptation field has a length byte, and bytes where n is below 183
     pub field_back_lem : 1 ≤ length xs → read_adaptation made ≡ pick (ltb (length xs) 183) (answer 0 (5 ∷ (183 - length xs) ∷ [])) (answer 9 [])
     unfolding adaptation_there
-    field_back_lem low = packet-is made undamaged.0 undamaged.1 _ ∙ go (ltb (length xs) 184) (ltb (length xs) 183) refl refl
+    field_back_lem low = packet-is made is-packet.0 is-packet.1 _ ∙ go (ltb (length xs) 184) (ltb (length xs) 183) refl refl
       where
         go : (a b : Bool) → ltb (length xs) 184 ≡ a → ltb (length xs) 183 ≡ b
             → pick (adaptation_there made) (answer 0 (5 ∷ adaptation_length made ∷ [])) (answer 9 [])

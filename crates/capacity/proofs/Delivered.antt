@@ -26,7 +26,7 @@ use Rattle.capacity.specs.Accepted.{PacketsRead, HeaderRead}
 use Rattle.capacity.specs.Demand.{Permitted, Ready, at_start, end_of, continues_of, events_written, events_logged, Strict}
 use Rattle.capacity.proofs.Permits.{route-fits, unit-fits}
 use Rattle.capacity.proofs.HeaderBack.{length_back_lem}
-use Rattle.capacity.proofs.Written.{written_count, all_undamaged, all-packets, stream-length, stream_takes, unit-run, whole, first-is, unit-gives}
+use Rattle.capacity.proofs.Written.{written_count, all-packets, stream-length, stream_takes, unit-run, whole, first-is, unit-gives}
 use Rattle.capacity.proofs.Written.{unit-segments, unit-pids, unit-counters}
 use Rattle.capacity.proofs.Accepted.{read-carried, header_read}
 use Rattle.capacity.proofs.Gathered.{continues-kind, continues-inside, part-inside, opened-taken, long_enough}
@@ -42,12 +42,10 @@ module _ (r : Route) (u : Unit) (payload : List ℕ) (ok : Permitted r u (length
         counters = unit-counters r u payload ok;
         events = unit-run r u payload ok s f ∙ ap (λ (m : ℕ). events_written s m (9 + data_of u + n)) k;
         delivers = record {
-          packets = all_undamaged r u payload;
-          conveys = record {
-            segment-of = whole r u payload ok;
-            one = unit-segments r u payload ok s f;
-            gives = unit-gives r u payload ok;
-          };
+          packets = all-packets r u payload;
+          segment-of = whole r u payload ok;
+          one = unit-segments r u payload ok s f;
+          gives = unit-gives r u payload ok;
         };
         stated = rw (first-is r u payload ok) (length_back_lem u n (unit-fits r u n ok) (take (175 - data_of u) payload));
       }

@@ -10,7 +10,7 @@ use Rattle.bits.specs.Answer.{part_of}
 use Rattle.bits.specs.Field.{bit, field}
 use Rattle.pes.specs.Stream.{parsed_id}
 use Rattle.pes.specs.Head.{not_head, id_of}
-use Rattle.packet.specs.Packet.{error_flag, start_flag, payload_flag, adaptation_flag, adaptation_there, content_at, payload_there}
+use Rattle.packet.specs.Packet.{start_flag, payload_flag, adaptation_flag, adaptation_there, content_at, payload_there}
 use Rattle.contents.specs.Contents.{not_contents, flagged, read_pts_dts, data_length, times_size, escr_at, es_rate_at, trick_at, copy_info_at, crc_at}
 use Rattle.contents.specs.Contents.{fields_end, payload_at}
 use Rattle.log.specs.declared.Event.{Event}
@@ -108,10 +108,6 @@ unfolding segments up_to_begin run events_of announces announcement begun contin
 bare-one Crate = refl
 bare-one Standard = refl
 
-bare_clear : error_flag packet ≡ false
-unfolding error_flag bit
-bare_clear = refl
-
 bare-bytes : bytes_at (packet ∷ []) begin ≡ 0 ∷ 0 ∷ 1 ∷ 0xBC ∷ 0 ∷ 0 ∷ carries
 unfolding event_bytes
 bare-bytes = refl
@@ -142,12 +138,10 @@ bare_payload = refl
 pub bare_in-one : (mo : Mode) → Delivers bare carries (first mo) (packet ∷ [])
 bare_in-one mo =
     record {
-      packets = ((refl, refl, bare_clear), tt);
-      conveys = record {
-        segment-of = segment begin [];
-        one = bare-one mo;
-        gives = record { header = rw bare-bytes bare-fields; payload-joined = rw bare-bytes bare_payload };
-      };
+      packets = ((refl, refl), tt);
+      segment-of = segment begin [];
+      one = bare-one mo;
+      gives = record { header = rw bare-bytes bare-fields; payload-joined = rw bare-bytes bare_payload };
     }
 
 pub bare_counts_two : count_of bare (length carries) ≡ 2

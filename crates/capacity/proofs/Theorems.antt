@@ -23,26 +23,26 @@ use Rattle.machine.specs.declared.Machine.{Machine}
 use Rattle.machine.specs.Events.{State, run}
 use Rattle.machine.specs.History.{first}
 use Rattle.machine.specs.Step.{state_of, Stands}
-use Rattle.machine.specs.Run.{report_of, ran_log, IsPacket, Undamaged, Logged}
+use Rattle.machine.specs.Run.{report_of, ran_log, IsPacket, Logged}
 use Rattle.machine.proofs.Theorems.{run-logged}
 use Rattle.machine.proofs.Slices.{flat-length, packets-flat}
 use Rattle.gather.specs.Gather.{read_of, held_bytes}
 use Rattle.units.specs.Units.{Standing, packet_of, gather_all, answers, read_at, bytes_at, last_event, Inside, GatheringStands, Taken, Open}
 use Rattle.gather.proofs.Laws.{read_done}
-use Rattle.units.proofs.Theorems.{packet-there}
+use Rattle.units.proofs.Theorems.{packet_there}
 use Rattle.writer.specs.declared.Route.{Route}
 use Rattle.writer.specs.declared.Unit.{Unit}
 use Rattle.writer.specs.Unit.{data_of, count_of}
 use Rattle.writer.specs.Packets.{packets_of}
 use Rattle.writer.specs.Writer.{all_of, route_tests, unit_tests, size_tests, not_written, write_of, output_of}
-use Rattle.capacity.specs.Reads.{segment, segments, Conveys, Delivers}
+use Rattle.capacity.specs.Reads.{segment, segments, Delivers}
 use Rattle.capacity.specs.Accepted.{PacketsRead, HeaderRead}
 use Rattle.capacity.specs.Demand.{Typed, Permitted, Accepts, count_given, output_bytes, output_packets}
 use Rattle.capacity.specs.Demand.{Ready, at_start, end_of, continues_of, events_written, Strict, events_logged}
 use Rattle.capacity.specs.ReadBack.{none, events_read, events_added, packet_at, call_numbers, after_calls, ReadBack}
 use Rattle.capacity.proofs.Permits.{unit-fits}
 use Rattle.capacity.proofs.Carried.{one-segment}
-use Rattle.capacity.proofs.Written.{written_count, all_undamaged, all-packets, unit-run}
+use Rattle.capacity.proofs.Written.{written_count, all-packets, unit-run}
 use Rattle.capacity.proofs.Gathered.{part-inside, continues-inside, long_enough}
 use Rattle.capacity.proofs.Calls.{events-read, packet-at, bytes_shifted, numbers-shifted, calls-shifted, shifted_segment, segments-shifted}
 use Rattle.capacity.proofs.Calls.{last-past, last-inside}
@@ -133,11 +133,10 @@ module _ (r : Route) (u : Unit) (payload out : List ℕ) (h : Accepts r u payloa
   pub output-packets : output_packets r u payload out ≡ packets_of r u payload
   output-packets = rw output-flat (packets-flat (packets_of r u payload) (all-packets r u payload))
 
--- ---- 3. whatever packets convey a unit, from whatever state, are at least its count
+-- ---- 3. whatever packets deliver a unit, from whatever state, are at least its count
 
--- of what is permitted this needs that the id is one of parsed contents, and nothing else; of the packets it needs nothing, so it holds of
--- damaged ones too
-pub least : (u : Unit) (payload : List ℕ) (s : State) (ps : List (List ℕ)) → parsed_id u.id ≡ true → Conveys u payload s ps
+-- of what is permitted this needs that the id is one of parsed contents, and nothing else
+pub least : (u : Unit) (payload : List ℕ) (s : State) (ps : List (List ℕ)) → parsed_id u.id ≡ true → Delivers u payload s ps
     → count_of u (length payload) ≤ length ps
 least u payload s ps p d =
     let w = segment-within 0 s ps d.segment-of d.one in
@@ -153,11 +152,11 @@ module _ (r : Route) (u : Unit) (payload out : List ℕ) (h : Accepts r u payloa
   pub written : (s : State) → Ready r s → Strict r u payload s (output_packets r u payload out)
   written s f = rw (output-packets r u payload out h) (permitted_written r u payload ok s f)
 
-  -- it is as many packets as the writer answers, and whatever packets convey the unit, from whatever state, are no fewer
+  -- it is as many packets as the writer answers, and whatever packets deliver the unit, from whatever state, are no fewer
   pub counted : length (output_packets r u payload out) ≡ count_given r u payload out
   counted = rw (output-packets r u payload out h, accepted-count r u payload out h) (written_count r u payload)
 
-  pub fewest : (s : State) (ps : List (List ℕ)) → Conveys u payload s ps → count_given r u payload out ≤ length ps
+  pub fewest : (s : State) (ps : List (List ℕ)) → Delivers u payload s ps → count_given r u payload out ≤ length ps
   fewest s ps d = rw (accepted-count r u payload out h) (least u payload s ps (unit-fits r u (length payload) ok).id-parsed d)
 
   -- every reader of packet and header accepts it, and finds nothing set that the unit does not name
@@ -179,17 +178,17 @@ module _ (r : Route) (u : Unit) (payload : List ℕ) (ok : Permitted r u (length
   is-19 true m e = refl
   is-19 false m e = let z : ◌≡◌ {A = ℕ} 0 19 = ap (λ (a : Answer). a.number) e in absurd (omega arith)
 
-  too_short : (out : List ℕ) → write_of r u payload out ≡ answer no_room [] → length out / 188 < count
-  too_short out e = ltb-true (length out / 188) count (is-19 (ltb (length out / 188) count) count (sym (permitted-answer r u payload out ok) ∙ e))
-
   -- of any way to deliver that takes the count, and that the writer's packets have from a state of the mode
   room_for : (mo : Mode) (A : State → List (List ℕ) → Type 0) → ((s : State) (ps : List (List ℕ)) → A s ps → count ≤ length ps)
       → A (first mo) (packets_of r u payload) → (out : List ℕ)
       → (write_of r u payload out ≡ answer no_room [])
       ↔ ((s : State) (ps : List (List ℕ)) → s.mode ≡ mo → 188 * length ps ≤ length out → A s ps → ⊥)
   room_for mo A low h₀ out =
-      (λ e s ps m fits d. omega (arith, too_short out e, low s ps d), λ h. permitted-answer r u payload out ok ∙ go (ltb (length out / 188) count) refl h)
+      (λ e s ps m fits d. omega (arith, short e, low s ps d), λ h. permitted-answer r u payload out ok ∙ go (ltb (length out / 188) count) refl h)
     where
+      short : write_of r u payload out ≡ answer no_room [] → length out / 188 < count
+      short e = ltb-true (length out / 188) count (is-19 (ltb (length out / 188) count) count (sym (permitted-answer r u payload out ok) ∙ e))
+
       go : (b : Bool) → ltb (length out / 188) count ≡ b
           → ((s : State) (ps : List (List ℕ)) → s.mode ≡ mo → 188 * length ps ≤ length out → A s ps → ⊥)
           → pick b (answer no_room []) (answer done (count ∷ [])) ≡ answer no_room []
@@ -201,12 +200,7 @@ module _ (r : Route) (u : Unit) (payload : List ℕ) (ok : Permitted r u (length
   first-written mo = permitted_written r u payload ok (first mo) (omega arith)
 
   enough : (s : State) (ps : List (List ℕ)) → Delivers u payload s ps → count ≤ length ps
-  enough s ps d = least u payload s ps (unit-fits r u (length payload) ok).id-parsed d.conveys
-
-  -- where it is given no packets that fit convey the unit, in whatever mode: also none that are damaged
-  pub no_room_lem : (out : List ℕ) → write_of r u payload out ≡ answer no_room [] → (s : State) (ps : List (List ℕ)) → 188 * length ps ≤ length out
-      → Conveys u payload s ps → ⊥
-  no_room_lem out e s ps fits d = omega (arith, too_short out e, least u payload s ps (unit-fits r u (length payload) ok).id-parsed d)
+  enough s ps d = least u payload s ps (unit-fits r u (length payload) ok).id-parsed d
 
   -- from a machine with no last counter or the one just before
   pub room : (mo : Mode) (out : List ℕ) → (write_of r u payload out ≡ answer no_room [])
@@ -239,7 +233,7 @@ logged r u payload out m log h typed f s t l =
     let n = counted r u payload out h typed in
     let e : run m.taken (state_of m) (output_packets r u payload out) ≡ events_logged u (length payload) m
     = ap (run m.taken (state_of m)) q ∙ permitted-events r u payload ok m f in
-    let all : All Undamaged (output_packets r u payload out) = rw q (all_undamaged r u payload) in
+    let all : All IsPacket (output_packets r u payload out) = rw q (all-packets r u payload) in
     let w : length (output_bytes r u payload out) % 188 ≡ 0 = omega (arith, output_size r u payload out h) in
     run-logged m (output_bytes r u payload out) log _ _ s w all n e t l
 
@@ -323,7 +317,7 @@ module _ (r : Route) (u : Unit) (payload out : List ℕ) (m : Machine) (log : Li
       let l = long_enough r u payload in
       let i : Inside ps (last_event b cs)
       = last-inside ps b cs (omega arith, part-inside (9 + data_of u + n)) (continues-inside ps 1 (count_of u n - 1) (9 + data_of u + n - 184) l) in
-      rw q (packet-there ps (last_event b cs).index (all-packets r u payload) i.0)
+      rw q (packet_there ps (last_event b cs).index (all-packets r u payload) i.0)
 
   calls : ReadBack r u payload (count_given r u payload out) bytes m log t
   calls =

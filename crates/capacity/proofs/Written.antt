@@ -18,14 +18,13 @@ use Rattle.writer.specs.declared.Unit.{Unit}
 use Rattle.writer.specs.Unit.{data_of, count_of}
 use Rattle.writer.specs.Packets.{header_image, carried, packets_of}
 use Rattle.writer.proofs.Laws.{header-length}
-use Rattle.machine.specs.Run.{IsPacket, Undamaged}
-use Rattle.machine.proofs.Slices.{undamaged-packets}
+use Rattle.machine.specs.Run.{IsPacket}
 use Rattle.units.specs.Units.{bytes_at, bytes_at_all}
 use Rattle.capacity.specs.Reads.{Segment, segment, segments, Gives}
 use Rattle.capacity.specs.Demand.{Permitted, Ready, end_of, continues_of, events_written, Counters}
 use Rattle.capacity.proofs.Permits.{RouteFits, UnitFits, route-fits, unit-fits}
 use Rattle.capacity.proofs.HeaderBack.{data_small, headed_back, fields_back, payload-after}
-use Rattle.capacity.proofs.Carried.{Takes, one-segment, made_undamaged, made-pids, made-counters, carried-length, run-carried}
+use Rattle.capacity.proofs.Carried.{Takes, one-segment, made-packets, made-pids, made-counters, carried-length, run-carried}
 use Rattle.capacity.proofs.Carried.{first-bytes, rest-bytes}
 
 pub written_count : (r : Route) (u : Unit) (payload : List ℕ) → length (packets_of r u payload) ≡ count_of u (length payload)
@@ -33,12 +32,9 @@ unfolding packets_of
 written_count r u payload =
     carried-length (count_of u (length payload)) 1 r.pid r.counter (header_image u (length payload) ++ payload)
 
-pub all_undamaged : (r : Route) (u : Unit) (payload : List ℕ) → All Undamaged (packets_of r u payload)
-unfolding packets_of
-all_undamaged r u payload = made_undamaged (count_of u (length payload)) 1 r.pid r.counter (header_image u (length payload) ++ payload)
-
 pub all-packets : (r : Route) (u : Unit) (payload : List ℕ) → All IsPacket (packets_of r u payload)
-all-packets r u payload = undamaged-packets (packets_of r u payload) (all_undamaged r u payload)
+unfolding packets_of
+all-packets r u payload = made-packets (count_of u (length payload)) 1 r.pid r.counter (header_image u (length payload) ++ payload)
 
 module _ (r : Route) (u : Unit) (payload : List ℕ) (ok : Permitted r u (length payload)) where
   abbrev n : ℕ

@@ -98,7 +98,7 @@ pub record Strict (r : Route) (u : Unit) (payload : List ℕ) (s : State) (ps : 
   pub counters : Counters r.counter ps
   pub events : run 0 s ps ≡ events_written s (length ps) (9 + data_of u + length payload)
   pub delivers : Delivers u payload s ps
-  pub stated : packet_length (bytes_at ps delivers.conveys.segment-of.first) ≡ stated_length u (length payload)
+  pub stated : packet_length (bytes_at ps delivers.segment-of.first) ≡ stated_length u (length payload)
 
 -- ---- over the machine with its log
 

@@ -10,7 +10,7 @@ use Rattle.pes_header.specs.Payload.{payload_bytes}
 use Rattle.log.specs.declared.Event.{Event}
 use Rattle.log.specs.Entry.{begin_packet, continue_packet}
 use Rattle.machine.specs.Events.{State, run}
-use Rattle.machine.specs.Run.{Undamaged}
+use Rattle.machine.specs.Run.{IsPacket}
 use Rattle.units.specs.Units.{bytes_at, bytes_at_all}
 use Rattle.writer.specs.declared.Times.{Times}
 use Rattle.writer.specs.declared.Times.TheVariants.{Untimed, Pts, Both}
@@ -89,15 +89,9 @@ pub record Gives (ps : List (List ℕ)) (u : Unit) (payload : List ℕ) (g : Seg
   pub header : HasFields u (bytes_at ps g.first)
   pub payload-joined : payload_bytes (bytes_at ps g.first) ++ bytes_at_all ps g.later ≡ payload
 
--- these packets, by the event rules from this state on, have one begin, and its segment gives the unit with its payload: whatever they are,
--- also such as a step refuses
-pub record Conveys (u : Unit) (payload : List ℕ) (s : State) (ps : List (List ℕ)) : Type 0 where
+-- THESE PACKETS, READ FROM THIS STATE, DELIVER THE UNIT: there is one begin, and its segment gives the unit with its payload
+pub record Delivers (u : Unit) (payload : List ℕ) (s : State) (ps : List (List ℕ)) : Type 0 where
+  pub packets : All IsPacket ps
   pub segment-of : Segment
   pub one : segments (run 0 s ps) ≡ segment-of ∷ []
   pub gives : Gives ps u payload segment-of
-
--- THESE PACKETS, READ FROM THIS STATE, DELIVER THE UNIT: they are of the machine's domain, so a step refuses none of them for itself, and
--- convey it
-pub record Delivers (u : Unit) (payload : List ℕ) (s : State) (ps : List (List ℕ)) : Type 0 where
-  pub packets : All Undamaged ps
-  pub conveys : Conveys u payload s ps

@@ -57,9 +57,9 @@ abbrev rule : List ℕ → ℕ → Bool
 rule table f = eqb (get_or table f 0) (fields_end (flag_byte f))
 
 -- a table of field ends, where antt has computed the test over all flag bytes
-pub table-of-ends : (table : List ℕ) → T (from (rule table) 0 256) → FieldEnds table
+pub table_of_ends : (table : List ℕ) → T (from (rule table) 0 256) → FieldEnds table
 unfolding FieldEnds
-table-of-ends table t f h = eqb→eq (get_or table f 0) (fields_end (flag_byte f)) (at (rule table) 0 256 t f (omega arith))
+table_of_ends table t f h = eqb→eq (get_or table f 0) (fields_end (flag_byte f)) (at (rule table) 0 256 t f (omega arith))
 
 -- so is each of its entries
 pub entry-is : (table : List ℕ) (f : ℕ) → FieldEnds table → f < 256 → get_or table f 0 ≡ fields_end (flag_byte f)

@@ -313,11 +313,11 @@ module _ (c : List ℕ) (at : ℕ) where
 
 -- three bytes and two, where nothing follows them
 module _ (c : List ℕ) (at : ℕ) where
-  three-of : rate_of (three c at) ≡ rate_of (drop at c)
-  three-of = rate-of (three c at) 0 ∙ sym (rate-of c at)
+  three_of : rate_of (three c at) ≡ rate_of (drop at c)
+  three_of = rate-of (three c at) 0 ∙ sym (rate-of c at)
 
-  two-of : field (two c at) 0 16 ≡ field (drop at c) 0 16
-  two-of = crc-of (two c at) 0 ∙ sym (crc-of c at)
+  two_of : field (two c at) 0 16 ≡ field (drop at c) 0 16
+  two_of = crc-of (two c at) 0 ∙ sym (crc-of c at)
 
 -- ---- both parts lie within the contents
 
@@ -471,7 +471,7 @@ module _ (c : List ℕ) (ok : Accepted c) where
     rate-fits = omega arith
 
     pub rate-there : answer 0 (rate_of (three c at) ∷ []) ≡ read_es_rate c
-    rate-there = rw (three-of c at, p) (sym (field-on c es_rate_bit _ ok n))
+    rate-there = rw (three_of c at, p) (sym (field-on c es_rate_bit _ ok n))
 
   module _ (at : ℕ) (p : at ≡ trick_at c) (n : bit c trick_bit ≡ 1) where
     pub trick-fits : at < length c
@@ -498,7 +498,7 @@ module _ (c : List ℕ) (ok : Accepted c) where
     crc-fits = omega arith
 
     pub crc-there : answer 0 (field (two c at) 0 16 ∷ []) ≡ read_crc c
-    crc-there = rw (two-of c at, p) (sym (field-on c crc_bit _ ok n))
+    crc-there = rw (two_of c at, p) (sym (field-on c crc_bit _ ok n))
 
   -- the same, by the test of the flag
   module _ (at : ℕ) (p : at ≡ escr_at c) (f : Bool) (e : f ≡ flag c escr_bit) (n : f ≡ true) where
@@ -580,8 +580,8 @@ module _ (c : List ℕ) (r : ContentsRead) (e : r ≡ ContentsRead.Done) (g : gi
     pub dts_there : 13 ≤ length c
     dts_there = omega (arith, times-two c f q (omega (arith, two_flags c f q)), times-fit c (accepted c r e g))
 
-    pub first-of-two : 8 ≤ length c
-    first-of-two = omega (arith, dts_there)
+    pub first-of_two : 8 ≤ length c
+    first-of_two = omega (arith, dts_there)
 
 -- the clock reference, by its two numbers
 module _ (xs : List ℕ) (b e : ℕ) (j : ClockMade) (g : given_made j ≡ make_clock b e) (p : b ≡ escr_base xs) (q : e ≡ escr_extension xs) where
@@ -704,7 +704,7 @@ module _ (b : ℕ) (l : b < 256) where
 -- What `search` is given. For what a call, an index or a sum asks, of all functions and of those of one field:
 pub ruleset contents-laws = (accepted, three_there, first-there, second_there, third_there, byte_wide, sum-wide, left-fits, end_in, rules)
 
-pub ruleset times-laws = (pts_there, dts_there, first-of-two, contents-laws)
+pub ruleset times-laws = (pts_there, dts_there, first-of_two, contents-laws)
 
 pub ruleset escr-laws = (escr-first, escr-later, contents-laws)
 

@@ -130,13 +130,13 @@ module _ (xs : List ℕ) where
   lower : field xs 16 17 ≡ get_or xs 2 0 % 256 * 2 ^ 9 + (get_or xs 3 0 % 256 * 2 + get_or xs 4 0 / 128 % 2)
   lower = omega (arith, field-split xs 16 8 9, field-split xs 24 8 1, in_byte xs 2 0 8 0 refl, in_byte xs 3 0 8 0 refl, in_byte xs 4 0 1 7 refl)
 
-  pub base-of : clock_base xs ≡ (get_or xs 0 0 % 256 * 2 ^ 25 + get_or xs 1 0 % 256 * 2 ^ 17) + (get_or xs 2 0 % 256 * 2 ^ 9 + (get_or xs 3 0 % 256 * 2 + get_or xs 4 0 / 128 % 2))
+  pub base_of : clock_base xs ≡ (get_or xs 0 0 % 256 * 2 ^ 25 + get_or xs 1 0 % 256 * 2 ^ 17) + (get_or xs 2 0 % 256 * 2 ^ 9 + (get_or xs 3 0 % 256 * 2 + get_or xs 4 0 / 128 % 2))
   unfolding clock_base
-  base-of = field-split xs 0 16 17 ∙ rw (upper, lower) (omega arith)
+  base_of = field-split xs 0 16 17 ∙ rw (upper, lower) (omega arith)
 
-  pub extension-of : clock_extension xs ≡ get_or xs 4 0 % 2 * 256 + get_or xs 5 0 % 256
+  pub extension_of : clock_extension xs ≡ get_or xs 4 0 % 2 * 256 + get_or xs 5 0 % 256
   unfolding clock_extension
-  extension-of = omega (arith, field-split xs 39 1 8, in_byte xs 4 7 1 0 refl, in_byte xs 5 0 8 0 refl)
+  extension_of = omega (arith, field-split xs 39 1 8, in_byte xs 4 7 1 0 refl, in_byte xs 5 0 8 0 refl)
 
   pub clock-short : length xs < 6 → answer 1 [] ≡ read_clock xs
   unfolding read_clock
@@ -147,8 +147,8 @@ module _ (xs : List ℕ) where
       → answer 0 ((a * 2 ^ 25 + b * 2 ^ 17 + c * 2 ^ 9 + d * 2 + e / 128) ∷ (e % 2 * 256 + f) ∷ []) ≡ read_clock xs
   unfolding read_clock
   clock-done a b c d e f h i j k l m n =
-      let p : a * 2 ^ 25 + b * 2 ^ 17 + c * 2 ^ 9 + d * 2 + e / 128 ≡ clock_base xs = sym (base-of ∙ omega arith) in
-      let q : e % 2 * 256 + f ≡ clock_extension xs = omega (arith, extension-of) in
+      let p : a * 2 ^ 25 + b * 2 ^ 17 + c * 2 ^ 9 + d * 2 + e / 128 ≡ clock_base xs = sym (base_of ∙ omega arith) in
+      let q : e % 2 * 256 + f ≡ clock_extension xs = omega (arith, extension_of) in
       simp (le-ltb (length xs) 6 h, p, q)
 
 -- six bytes hold a clock reference

@@ -53,11 +53,6 @@ fn take(g: Gathering, packet: &[u8], e: Event, store: &mut [u8]) -> Gathering {
     next
 }
 
-// The first event of a store.
-pub fn begin(packet: &[u8], e: Event, store: &mut [u8]) {
-    take(Gathering::new(), packet, e, store);
-}
-
 // The event at a place of the log, with its packet.
 fn entry(g: Gathering, stream: &[u8], log: &[u8; LOG], at: usize, store: &mut [u8]) -> Gathering {
     match log::entry_at(log, at) {

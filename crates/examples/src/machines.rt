@@ -16,7 +16,6 @@ pub fn number(v: Verdict) {
         Verdict::Done => show::number(0),
         Verdict::WrongLength => show::number(1),
         Verdict::NoSync => show::number(2),
-        Verdict::Damaged => show::number(24),
         Verdict::OutOfRange => show::number(14),
         Verdict::IndexFull => show::number(16),
         Verdict::LogFull => show::number(15),

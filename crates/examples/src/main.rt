@@ -1,6 +1,5 @@
 // Runs the examples of the request that are not proved, the object `PesHeader` and the step over a lent state, and prints a line for each
 // answer. README.md says what the numbers of a line are, and the file stdout has what must come out.
-mod damaged;
 mod gathering;
 mod header_object;
 mod headers;
@@ -20,5 +19,4 @@ fn main() {
     repeats::run();
     gathering::run(&stream);
     log_size::run();
-    damaged::run();
 }

@@ -11,7 +11,7 @@ const MOST: usize = 5;
 const BYTES: usize = 940;
 
 // A packet by a code. Its low four bits are the counter; the others: 1 a payload, 2 none, 3 a payload and the discontinuity bit, 5 a payload
-// that begins with a head, and the start flag, 9 a payload, and the error bit.
+// that begins with a head, and the start flag.
 fn packet(code: u8) -> [u8; 188] {
     let mut p = [0xFF; 188];
     copy_at(b"\x47\x01\x00", &mut p, 0);
@@ -23,15 +23,14 @@ fn packet(code: u8) -> [u8; 188] {
             copy_at(b"\x41", &mut p, 1);
             copy_at(b"\x00\x00\x01\xE0", &mut p, 4)
         }
-        9 => copy_at(b"\x81", &mut p, 1),
         _ => (),
     }
     p
 }
 
-fn steps(call: &[u8], first: Machine, codes: &[u8]) {
+fn steps(call: &[u8], codes: &[u8]) {
     let mut log = [0u8; LOG];
-    let mut state = first;
+    let mut state = Machine::standard();
     for i in 0..MOST {
         if i < codes.len() {
             state = machines::step(call, state, &packet(codes[i]), &mut log);
@@ -56,23 +55,19 @@ fn size(codes: &[u8]) -> usize {
     codes.len() * 188
 }
 
-fn all(call: &[u8], first: Machine, codes: &[u8]) {
+fn all(call: &[u8], codes: &[u8]) {
     let mut bytes = [0u8; BYTES];
     put(codes, 0, &mut bytes);
     put(codes, 1, &mut bytes);
     put(codes, 2, &mut bytes);
     put(codes, 3, &mut bytes);
     put(codes, 4, &mut bytes);
-    machines::all(call, first, part(&bytes, 0, size(codes)));
+    machines::all(call, Machine::standard(), part(&bytes, 0, size(codes)));
 }
 
-pub fn row(call: &[u8], first: Machine, codes: &[u8]) {
-    steps(call, first, codes);
-    all(call, first, codes);
-}
-
-fn corner(call: &[u8], codes: &[u8]) {
-    row(call, Machine::standard(), codes);
+fn row(call: &[u8], codes: &[u8]) {
+    steps(call, codes);
+    all(call, codes);
 }
 
 // Within a unit whose stream was not announced, at a place of the log.
@@ -107,16 +102,16 @@ fn three() {
 }
 
 pub fn run() {
-    corner(b"standard P5_P5_P5_P5_P5", b"\x15\x15\x15\x15\x15");
-    corner(b"standard P5_A5_P5", b"\x15\x25\x15");
-    corner(b"standard A5_P5", b"\x25\x15");
-    corner(b"standard P5_P5_P6_P6", b"\x15\x15\x16\x16");
-    corner(b"standard P5_D9_P9_P10", b"\x15\x39\x19\x1A");
-    corner(b"standard P5_D5", b"\x15\x35");
-    corner(b"standard P5_P5_A5_P5", b"\x15\x15\x25\x15");
-    corner(b"standard P5_S5", b"\x15\x55");
-    corner(b"standard P5_P9_S10", b"\x15\x19\x5A");
-    corner(b"standard P5_S9", b"\x15\x59");
-    corner(b"standard P5_S5_S5", b"\x15\x55\x55");
+    row(b"standard P5_P5_P5_P5_P5", b"\x15\x15\x15\x15\x15");
+    row(b"standard P5_A5_P5", b"\x15\x25\x15");
+    row(b"standard A5_P5", b"\x25\x15");
+    row(b"standard P5_P5_P6_P6", b"\x15\x15\x16\x16");
+    row(b"standard P5_D9_P9_P10", b"\x15\x39\x19\x1A");
+    row(b"standard P5_D5", b"\x15\x35");
+    row(b"standard P5_P5_A5_P5", b"\x15\x15\x25\x15");
+    row(b"standard P5_S5", b"\x15\x55");
+    row(b"standard P5_P9_S10", b"\x15\x19\x5A");
+    row(b"standard P5_S9", b"\x15\x59");
+    row(b"standard P5_S5_S5", b"\x15\x55\x55");
     three();
 }

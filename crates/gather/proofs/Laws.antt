@@ -98,14 +98,14 @@ module _ (g : Gathering) (room : ℕ) where
     lies_in-store e = ap (λ (l : Lies). leaves_packet l g.count) (sym e) ∙ in-store
 
     module _ (a : ℕ) (e : g.lies ≡ Packet a) where
-      lies_in-packet : ltb 188 (a + g.count) ≡ wrong_gathering g room
-      lies_in-packet = ap (λ (l : Lies). leaves_packet l g.count) (sym e) ∙ in-store
+      lies_in_packet : ltb 188 (a + g.count) ≡ wrong_gathering g room
+      lies_in_packet = ap (λ (l : Lies). leaves_packet l g.count) (sym e) ∙ in-store
 
       pub place-past : 188 < a → true ≡ wrong_gathering g room
-      place-past k = sym (lt-ltb 188 (a + g.count) (omega arith)) ∙ lies_in-packet
+      place-past k = sym (lt-ltb 188 (a + g.count) (omega arith)) ∙ lies_in_packet
 
-      pub packet-tested : a ≤ 188 → ltb (188 - a) g.count ≡ wrong_gathering g room
-      packet-tested k = moved_bound a g.count 188 k ∙ lies_in-packet
+      pub packet_tested : a ≤ 188 → ltb (188 - a) g.count ≡ wrong_gathering g room
+      packet_tested k = moved_bound a g.count 188 k ∙ lies_in_packet
 
   -- what is known of a state that is not refused, and the other way
   pub count-inside : wrong_gathering g room ≡ false → g.count ≤ room
@@ -420,4 +420,4 @@ pub ruleset apply_laws = (named_end, named_short, count-inside, own_end, own_sho
 
 pub ruleset call-laws = (none-outcome, none-store, open-outcome, open-store, begin-outcome, begin-store, rules)
 
-pub ruleset gather_laws = (kind-none, kind-past, part-tested, past-store, lies_in-store, place-past, packet-tested, read_length_lem, read_sync, read_out, read_done, bytes-refused, bytes-packet, bytes-store, rest-start, rest-break, rest-closed, extends-not, extends_open, full_is, appended-full, appended-done, none-placed, tested, rules)
+pub ruleset gather_laws = (kind-none, kind-past, part-tested, past-store, lies_in-store, place-past, packet_tested, read_length_lem, read_sync, read_out, read_done, bytes-refused, bytes-packet, bytes-store, rest-start, rest-break, rest-closed, extends-not, extends_open, full_is, appended-full, appended-done, none-placed, tested, rules)

@@ -22,13 +22,13 @@ module _ (n : ℕ) where
   pub lies_store : n ≡ 255 → Store ≡ lies_of n
   lies_store e = simp e
 
-  pub lies-packet : (n ≡ 255 → ⊥) → Packet n ≡ lies_of n
-  lies-packet h = simp (ne_eqb n 255 h)
+  pub lies_packet : (n ≡ 255 → ⊥) → Packet n ≡ lies_of n
+  lies_packet h = simp (ne_eqb n 255 h)
 
 module _ (xs : List ℕ) where
-  pub stray-open : 1 < get_or xs 0 0 → Stray ≡ gathering_of xs
+  pub stray_open : 1 < get_or xs 0 0 → Stray ≡ gathering_of xs
   unfolding gathering_of
-  stray-open h = simp (lt-ltb 1 (get_or xs 0 0) h)
+  stray_open h = simp (lt-ltb 1 (get_or xs 0 0) h)
 
   pub row-stands : (l : Lies) → get_or xs 0 0 ≤ 1 → l ≡ lies_of (get_or xs 2 0) → Is (gathering (eqb (get_or xs 0 0) 1) (get_or xs 1 0) l) ≡ gathering_of xs
   unfolding gathering_of
@@ -38,7 +38,7 @@ pub row_is : (g : Gathering) (a : ℕ) → a ≡ lies_number g.lies → truth g.
 unfolding gathering_row
 row_is g a e = rw e
 
-pub ruleset row_laws = (lies_store, lies-packet, stray-open, row-stands, row_is, rules)
+pub ruleset row_laws = (lies_store, lies_packet, stray_open, row-stands, row_is, rules)
 
 -- ---- a row reads back
 

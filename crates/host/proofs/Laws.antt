@@ -61,8 +61,8 @@ module _ {R : Type 0} (given : R → Answer) {r k : R} where
     reports_case f t = rw f t
 
     -- the answer that the call ensures
-    pub reports-of : {a : Answer} → given r ≡ a → r ≡ k → Reports (given k) w lent left → Reports a w lent left
-    reports-of e f t = reports_as (given-case e f) t
+    pub reports_of : {a : Answer} → given r ≡ a → r ≡ k → Reports (given k) w lent left → Reports a w lent left
+    reports_of e f t = reports_as (given-case e f) t
 
     -- that answer, or one behind it
     pub reports_before : (p q : Answer) → given r ≡ p → r ≡ k → Reports (and_then (given k) q) w lent left → Reports (and_then p q) w lent left
@@ -180,7 +180,7 @@ number-none b e m p i = rw (number-refused b e (given-case given_made p i)) (rep
 
 pub number-some : (b e : ℕ) {w : ℕ} {lent left : List ℕ} (m : ClockMade) (c : ClockRef) (r k : ClockNumber) → given_made m ≡ make_clock b e → m ≡ ClockMade.Done c
     → given_number r ≡ clock_number c.base c.extension → r ≡ k → Reports (given_number k) w lent left → Reports (clock_number b e) w lent left
-number-some b e m c r k p i q j t = reports-of given_number (q ∙ number_of b e c (given-case given_made p i)) j t
+number-some b e m c r k p i q j t = reports_of given_number (q ∙ number_of b e c (given-case given_made p i)) j t
 
 pub follows-reports : (a b l : ℕ) (f : Bool) (m n : CounterMade) (x y : ContinuityCounter) → given_counter m ≡ make_counter a → m ≡ CounterMade.Done x
     → given_counter n ≡ make_counter b → n ≡ CounterMade.Done y → f ≡ follows x.val y.val → Reports (follows_answer a b) 0 (l ∷ []) (bool_byte f ∷ [])
@@ -224,7 +224,7 @@ four_through f xs = unless-map (not_packet xs) (through f) (λ n h. rw (ne_eqb n
 
 pub four_reports : {R : Type 0} (f : ℕ → Answer) (given : R → Answer) (xs : List ℕ) {r k : R} {w : ℕ} {lent left : List ℕ} → given r ≡ read_byte_four xs → r ≡ k
     → Reports (through f (given k)) w lent left → Reports (unless (not_packet xs) (f (get_or xs 3 0))) w lent left
-four_reports f given xs p e t = reports-of (λ k. through f (given k)) (ap (through f) p ∙ four_through f xs) e t
+four_reports f given xs p e t = reports_of (λ k. through f (given k)) (ap (through f) p ∙ four_through f xs) e t
 
 -- ---- heads and contents
 
@@ -242,7 +242,7 @@ rate-none n m p i = rw (rate-refused n (given-case given_rate_made p i)) (report
 
 pub rate-some : (n : ℕ) {w : ℕ} {lent left : List ℕ} (m : EsRateMade) (e : EsRate) (r k : EsRateNumber) → given_rate_made m ≡ make_rate n → m ≡ EsRateMade.Done e
     → given_rate_number r ≡ rate_bytes e.0 → r ≡ k → Reports (given_rate_number k) w lent left → Reports (rate_bytes n) w lent left
-rate-some n m e r k p i q j t = reports-of given_rate_number (q ∙ rate-kept n e.0 (given-case given_rate_made p i)) j t
+rate-some n m e r k p i q j t = reports_of given_rate_number (q ∙ rate-kept n e.0 (given-case given_rate_made p i)) j t
 
 -- What `search` is given. For what a call, a match or a cast asks: `host_laws`. For what is reported: the laws of its shape and no others, so that
 -- a wrong answer is refused soon.

@@ -41,8 +41,6 @@ pub const NO_ROOM: u32 = 19;
 
 pub const STORE_FULL: u32 = 20;
 
-pub const DAMAGED: u32 = 24;
-
 // Two numbers of an answer.
 #[derive(Drop)]
 pub struct Pair(pub u64, pub u64);

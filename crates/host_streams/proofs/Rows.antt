@@ -1,27 +1,25 @@
 -- What the entries report, in each case.
 -- Assumes nothing.
 use mathlib.Core.Path.{◌≡◌, refl, sym, ap, ◌∙◌}
-use mathlib.Core.Bool.{Bool, true, false}
+use mathlib.Core.Bool.{Bool, true, false, not}
 use mathlib.Core.List.{List, [], ◌∷◌}
 use Prim.Native.Nat.{ℕ}
 use lib.Dec.{eqb}
 use lib.ListN.{length, get_or}
 use borrow.Author.Rules.{rules}
 use borrow.Author.Tests.{eq-eqb, ne_eqb}
-use Rattle.bits.specs.Answer.{answer, pick, ◌gives◌, first_of, other}
-use Rattle.packet.specs.declared.Tried.{Tried}
-use Rattle.packet.specs.Packet.{given_tried, not_packet, tried}
-use Rattle.packet.proofs.Laws.{tried-first}
+use Rattle.bits.specs.Answer.{Answer, answer, pick, first_of, other}
 use Rattle.machine.specs.declared.Mode.{Mode}
 use Rattle.machine.specs.declared.Machine.{Machine}
 use Rattle.machine.specs.declared.row.RowRead.{RowRead}
 use Rattle.machine.specs.declared.row.RowRead.TheVariants.{Is, Stray}
 use Rattle.machine.specs.Step.{fresh, not_taken, Outcome, step_of, log_of}
 use Rattle.machine.specs.Run.{not_run, Reported, report_of, ran_log}
+use Rattle.machine.proofs.Rows.{stray-number}
 use Rattle.machine.specs.Row.{machine_of, row_of, step_by, row_step, row_step_of, run_by, row_run, row_run_of}
 use Rattle.log.specs.declared.Event.{Event}
 use Rattle.host.specs.Reports.{Reports}
-use Rattle.host.proofs.Laws.{reports, reports_as, reports-of, host_laws}
+use Rattle.host.proofs.Laws.{reports, reports_as, reports_of, host_laws}
 use Rattle.machine.proofs.Laws.{run_length, run-state}
 use Rattle.writer.specs.declared.Route.{Route}
 use Rattle.writer.specs.declared.Unit.{Unit as WrittenUnit}
@@ -74,28 +72,19 @@ module _ (r : RowRead) (xs bs l : List ℕ) (t e : ℕ) (of : r ≡ machine_of x
 
 -- ---- the gathering store
 
--- what a row that stands for nothing is refused with beside a packet, by the answer of `try_new`
-module _ (p : List ℕ) (t : Tried) (g : given_tried t ≡ tried p) where
-  pub store_length : t ≡ Tried.WrongLength → 1 ≡ first_of (store.not_state p)
-  unfolding store.not_state
-  store_length e = rw e at (tried-first p (true gives 14 ∷ []) t g)
-
-  pub store-sync : t ≡ Tried.NoSync → 2 ≡ first_of (store.not_state p)
-  unfolding store.not_state
-  store-sync e = rw e at (tried-first p (true gives 14 ∷ []) t g)
-
-  pub store-state : t ≡ Tried.Done → 14 ≡ first_of (store.not_state p)
-  unfolding store.not_state
-  store-state e = rw e at (tried-first p (true gives 14 ∷ []) t g)
+-- a row that stands for nothing is refused alike by both: 1, 2, 14
+refused_alike : (p : List ℕ) → first_of (not_taken p true []) ≡ first_of (store.not_state p)
+unfolding not_taken store.not_state
+refused_alike p = refl
 
 module _ (r : gather-row.RowRead) (xs p : List ℕ) (v : Event) (s : List ℕ) (of : r ≡ store.gathering_of xs) where
   gathered-by : store.gather_by r xs p v s ≡ store.row_gather_of xs p v s
   unfolding store.row_gather_of
   gathered-by = ap (λ (t : gather-row.RowRead). store.gather_by t xs p v s) of
 
-  pub gather_strayed : (n : ℕ) → r ≡ gather-row.RowRead.Stray → n ≡ first_of (store.not_state p) → store.row_gather n xs s ≡ store.row_gather_of xs p v s
+  pub gather_strayed : (n : ℕ) → r ≡ gather-row.RowRead.Stray → n ≡ first_of (not_taken p true []) → store.row_gather n xs s ≡ store.row_gather_of xs p v s
   gather_strayed n e f =
-      ap (λ (k : ℕ). store.row_gather k xs s) f ∙ (ap (λ (t : gather-row.RowRead). store.gather_by t xs p v s) (sym e) ∙ gathered-by)
+      ap (λ (k : ℕ). store.row_gather k xs s) (f ∙ refused_alike p) ∙ (ap (λ (t : gather-row.RowRead). store.gather_by t xs p v s) (sym e) ∙ gathered-by)
 
   module _ (g : Gathering) (e : r ≡ gather-row.RowRead.Is g) (o : gather.GatherOutcome) (s' : List ℕ) (n : ℕ) (f : o ≡ gather.gather_of g p v s) (k : s' ≡ gather.store_of g p v s)
       (h : n ≡ o.number) where
@@ -110,9 +99,8 @@ module _ (r : gather-row.RowRead) (xs p : List ℕ) (v : Event) (s : List ℕ) (
       gather-moves xs' z q = at_each xs' (simp (sym d ∙ z) q)
 
 -- .. and reported by its number alone
-strayed_reports : (p : List ℕ) {lent : List ℕ} → Reports (answer (first_of (store.not_state p)) []) (first_of (store.not_state p)) lent lent
-unfolding store.not_state not_packet
-strayed_reports p {lent} = go (other (length p) 188) (other (get_or p 0 0) 0x47)
+strayed_reports : (p : List ℕ) {lent : List ℕ} → Reports (answer (first_of (not_taken p true [])) []) (first_of (not_taken p true [])) lent lent
+strayed_reports p {lent} = rw (stray-number p) (go (other (length p) 188) (other (get_or p 0 0) 0x47))
   where
     go : (a b : Bool) → let n : ℕ = pick a 1 (pick b 2 14) in Reports (answer n []) n lent lent
     go true b = reports refl refl
@@ -124,9 +112,10 @@ module _ (r : gather-row.RowRead) (xs p s : List ℕ) (of : r ≡ store.gatherin
   unfolding store.row_held
   held_by_lem = ap (λ (t : gather-row.RowRead). store.held_by t p s) of
 
-  pub held-strayed : {w : ℕ} {lent : List ℕ} → r ≡ gather-row.RowRead.Stray → w ≡ first_of (store.not_state p) → Reports (store.row_held xs p s) w lent lent
+  pub held-strayed : {w : ℕ} {lent : List ℕ} → r ≡ gather-row.RowRead.Stray → w ≡ first_of (not_taken p true []) → Reports (store.row_held xs p s) w lent lent
   held-strayed {w} e f =
-      rw f (reports_as (ap (λ (t : gather-row.RowRead). store.held_by t p s) (sym e) ∙ held_by_lem) (strayed_reports p))
+      let q = ap (λ (k : ℕ). answer k []) (refused_alike p) ∙ (ap (λ (t : gather-row.RowRead). store.held_by t p s) (sym e) ∙ held_by_lem) in
+      rw f (reports_as q (strayed_reports p))
 
   -- the answer of a state by what its bytes' reading gives
   module _ (g : Gathering) (e : r ≡ gather-row.RowRead.Is g) (h : HeldRead) (f : gather.given_held h ≡ gather.read_of g p s) where
@@ -139,8 +128,8 @@ module _ (r : gather-row.RowRead) (xs p s : List ℕ) (of : r ≡ store.gatherin
 
     -- the bytes of a packet, and those of a store
     module _ (x y z : ℕ) (q : h ≡ HeldRead.Done) where
-      pub held-in-packet : (a : ℕ) → g.lies ≡ Lies.Packet a → Reports (store.row_held xs p s) 0 (x ∷ y ∷ z ∷ []) (0 ∷ a ∷ g.count ∷ [])
-      held-in-packet a e = held-reports HeldRead.Done q (reports refl (rw e))
+      pub held-in_packet : (a : ℕ) → g.lies ≡ Lies.Packet a → Reports (store.row_held xs p s) 0 (x ∷ y ∷ z ∷ []) (0 ∷ a ∷ g.count ∷ [])
+      held-in_packet a e = held-reports HeldRead.Done q (reports refl (rw e))
 
       pub held-in-store : g.lies ≡ Lies.Store → Reports (store.row_held xs p s) 0 (x ∷ y ∷ z ∷ []) (1 ∷ 0 ∷ g.count ∷ [])
       held-in-store e = held-reports HeldRead.Done q (reports refl (rw e))
@@ -166,7 +155,7 @@ module _ (r : writer-row.RowRead) (q : Route) (w xs ys : List ℕ) (of : r ≡ u
   module _ (u : WrittenUnit) (e : r ≡ writer-row.RowRead.Is u) where
     pub written_reports : (a v : Written) (n : ℕ) (lent left : List ℕ) → given_written a ≡ write_of q u xs ys → a ≡ v → Reports (given_written v) n lent left
         → Reports (row_write_of q w xs ys) n lent left
-    written_reports a v n lent left g f h = reports-of given_written (g ∙ (ap (λ (t : writer-row.RowRead). write_by t q xs ys) (sym e) ∙ written_by)) f h
+    written_reports a v n lent left g f h = reports_of given_written (g ∙ (ap (λ (t : writer-row.RowRead). write_by t q xs ys) (sym e) ∙ written_by)) f h
 
     pub written_output : (zs : List ℕ) → zs ≡ output_of q u xs ys → zs ≡ row_output_of q w xs ys
     written_output zs g = g ∙ (ap (λ (t : writer-row.RowRead). output_by t q xs ys) (sym e) ∙ output-by)
@@ -187,11 +176,9 @@ pub ruleset step-laws = (step-taken, step-refused, step-strayed, rules)
 
 pub ruleset run-laws = (run-done, run-refused, run-strayed, run_length, run-state, rules)
 
-pub ruleset store-laws = (store_length, store-sync, store-state, rules)
-
 pub ruleset gathered-laws = (gather-moves, gather-stays, gather_strayed, rules)
 
-pub ruleset held-laws = (held-in-packet, held-in-store, held-reports, held-strayed, host_laws)
+pub ruleset held-laws = (held-in_packet, held-in-store, held-reports, held-strayed, host_laws)
 
 pub ruleset written_laws = (written_reports, written_output, write_strayed, output_strayed, host_laws)
 

@@ -4,7 +4,7 @@ ghost use Rattle.std.specs.Prelude.{◌≡◌, true, []};
 ghost use Rattle.bits.specs.Answer.{first_of};
 ghost use Rattle.machine.specs.Step.{not_taken, verdict_number};
 
-use host::numbers::{DAMAGED, DONE, INDEX_FULL, LOG_FULL, NO_SYNC, OUT_OF_RANGE, WRONG_LENGTH};
+use host::numbers::{DONE, INDEX_FULL, LOG_FULL, NO_SYNC, OUT_OF_RANGE, WRONG_LENGTH};
 use machine::Verdict;
 
 pub mod of_gather;
@@ -18,14 +18,13 @@ fn step_number(v: Verdict) -> u32
         Verdict::Done => DONE,
         Verdict::WrongLength => WRONG_LENGTH,
         Verdict::NoSync => NO_SYNC,
-        Verdict::Damaged => DAMAGED,
         Verdict::OutOfRange => OUT_OF_RANGE,
         Verdict::IndexFull => INDEX_FULL,
         Verdict::LogFull => LOG_FULL,
     }
 }
 
-// What a row that stands for no state of the machine is refused with, beside a packet.
+// What a row that stands for no state is refused with, beside a packet: the store refuses it as the machine does.
 fn strayed(packet: &[u8]) -> u32
     ensures { result ≡ first_of (not_taken packet.now true []) }
 {

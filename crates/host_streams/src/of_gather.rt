@@ -1,16 +1,15 @@
 // The gathering store. The host keeps a state as a row of numbers and lends it (gather::row).
 ghost use Rattle.std.specs.Prelude.{◌≡◌, [], ◌∷◌};
-ghost use Rattle.bits.specs.Answer.{first_of};
 ghost use Rattle.log.specs.Entry.{event};
 ghost use Rattle.gather.specs.Gather.{emptied, store_number};
-ghost use Rattle.gather.specs.Row.{not_state, gathering_row, moves, row_gather, row_gather_of, row_held};
+ghost use Rattle.gather.specs.Row.{gathering_row, moves, row_gather, row_gather_of, row_held};
 ghost use Rattle.host.specs.Reports.{Reports};
 
+use crate::strayed;
 use gather::row::RowRead;
 use gather::{Gathering, HeldRead, Lies, Verdict, row};
 use host::numbers::{DONE, NO_SYNC, OUT_OF_RANGE, STORE_FULL, WRONG_LENGTH};
 use log::Event;
-use packet::Tried;
 
 fn number_of(v: Verdict) -> u32
     ensures { result ≡ store_number v }
@@ -21,18 +20,6 @@ fn number_of(v: Verdict) -> u32
         Verdict::NoSync => NO_SYNC,
         Verdict::OutOfRange => OUT_OF_RANGE,
         Verdict::StoreFull => STORE_FULL,
-    }
-}
-
-// What a row that stands for no state of the store is refused with, beside a packet. The machine gives 24 before 14; the store does not
-// look at the error bit.
-fn strayed_store(packet: &[u8]) -> u32
-    ensures { result ≡ first_of (not_state packet.now) }
-{
-    match packet::try_new(packet) {
-        Tried::Done => OUT_OF_RANGE,
-        Tried::WrongLength => WRONG_LENGTH,
-        Tried::NoSync => NO_SYNC,
     }
 }
 
@@ -85,7 +72,7 @@ pub extern "C" fn cmv_gather(
             }
             number
         }
-        RowRead::Stray => strayed_store(packet),
+        RowRead::Stray => strayed(packet),
     }
 }
 
@@ -128,6 +115,6 @@ pub extern "C" fn cmv_gather_bytes(
                 HeldRead::OutOfRange => OUT_OF_RANGE,
             }
         }
-        RowRead::Stray => strayed_store(packet),
+        RowRead::Stray => strayed(packet),
     }
 }

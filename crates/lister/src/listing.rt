@@ -39,7 +39,6 @@ fn number(v: Verdict) -> u64
         Verdict::Done => 0,
         Verdict::WrongLength => 1,
         Verdict::NoSync => 2,
-        Verdict::Damaged => 24,
         Verdict::OutOfRange => 14,
         Verdict::IndexFull => 16,
         Verdict::LogFull => 15,

@@ -5,17 +5,18 @@ use mathlib.Core.Bool.{Bool, true, false}
 use mathlib.Core.List.{List, [], ◌∷◌}
 use Prim.Native.Nat.{ℕ, ◌≤◌, ◌<◌}
 use native.Mathlib.Omega.{arith}
-use lib.ListN.{get_or}
+use lib.ListN.{length, get_or}
 use lib.Dec.{eqb, ltb}
 use types.Run.{OneOf}
 use denote.Enum.Declared.{tag_of}
 use borrow.Author.Rules.{rules}
 use borrow.Author.Tests.{lt-ltb, le-ltb, ne_eqb, ltb-false}
-use Rattle.bits.specs.Answer.{pick, truth}
+use Rattle.bits.specs.Answer.{pick, first_of, other, truth}
 use Rattle.bits.proofs.Bools.{false_true}
 use Rattle.control.specs.declared.ContinuityCounter.{ContinuityCounter}
 use Rattle.control.specs.Control.{counter_of}
 use Rattle.control.proofs.Laws.{counter-is}
+use Rattle.packet.specs.Packet.{not_packet}
 use Rattle.machine.specs.declared.Mode.{Mode}
 use Rattle.machine.specs.declared.Mode.TheVariants.{Crate, Standard}
 use Rattle.machine.specs.declared.Phase.{Phase}
@@ -37,7 +38,7 @@ use Rattle.machine.specs.contracts.row.LastRead.{the_type as last-type}
 use Rattle.machine.specs.contracts.row.AgainRead.{the_type as again-type}
 use Rattle.machine.specs.contracts.row.AnnouncedRead.{the_type as announced-type}
 use Rattle.machine.specs.Events.{as_counter}
-use Rattle.machine.specs.Step.{machine, wrong_last}
+use Rattle.machine.specs.Step.{machine, wrong_last, not_taken}
 use Rattle.machine.specs.Row.{mode_of, phase_of, last_of, again_of, no_last, mode_read, phase_read, last_read, again_read, announced_read}
 use Rattle.machine.specs.Row.{mode_number, phase_number, last_number, again_number, strays, machine_of, row_of}
 
@@ -252,6 +253,11 @@ pub row_is : (m : Machine) (a b c d : ℕ) → a ≡ mode_number m.mode → b �
     → a ∷ b ∷ c ∷ d ∷ truth m.announced ∷ m.taken ∷ m.place ∷ [] ≡ row_of m
 unfolding row_of
 row_is m a b c d e f g h = rw (e, f, g, h)
+
+-- what a row that stands for nothing is refused with, beside a packet: 1, 2, 14
+pub stray-number : (p : List ℕ) → first_of (not_taken p true []) ≡ pick (other (length p) 188) 1 (pick (other (get_or p 0 0) 0x47) 2 14)
+unfolding not_taken not_packet
+stray-number p = refl
 
 -- ---- theorems: a row reads back
 

@@ -8,12 +8,7 @@ use lib.ListN.{length, length-append}
 use lib.Seq.{take_at, drop_at}
 use Rattle.bits.specs.Answer.{All}
 use Rattle.bits.specs.Pack.{flat}
-use Rattle.machine.specs.Run.{chunk, packets_in, IsPacket, Undamaged}
-
--- packets that are not damaged are packets
-pub undamaged-packets : (ps : List (List ℕ)) → All Undamaged ps → All IsPacket ps
-undamaged-packets [] h = tt
-undamaged-packets (p ∷ ps) h = ((h.0.0, h.0.1), undamaged-packets ps h.1)
+use Rattle.machine.specs.Run.{chunk, packets_in, IsPacket}
 
 pub flat-length : (ps : List (List ℕ)) → All IsPacket ps → length (flat ps) ≡ 188 * length ps
 unfolding flat

@@ -1,18 +1,13 @@
--- Corners of continuity and of StartStream, as rows: from a state, these packets, the continuity of each and the kinds of its events. Then
--- every pair of a step's refusals, as rows: which two tests hold, of which the first is the number.
+-- Corners of continuity and of StartStream, as rows: from a state, these packets, the continuity of each and the kinds of its events.
 use Rattle.std.specs.Prelude.{◌≡◌, true, false, List, [], ◌∷◌, map, ℕ, suc, ◌+◌, replicate}
-use Rattle.bits.specs.Answer.{pick, Check}
 use Rattle.log.specs.declared.Event.{Event}
-use Rattle.machine.specs.declared.Mode.{Mode}
 use Rattle.machine.specs.declared.Mode.TheVariants.{Crate, Standard}
 use Rattle.machine.specs.declared.Phase.TheVariants.{Begin, Started, IgnoreRest}
 use Rattle.machine.specs.declared.Last.TheVariants.{Nothing, At}
 use Rattle.machine.specs.declared.Repeat.TheVariants.{Barred, Open, Spent}
-use Rattle.machine.specs.declared.Machine.{Machine}
 use Rattle.machine.specs.declared.Continuity.{Continuity}
 use Rattle.machine.specs.declared.Continuity.TheVariants.{GoesOn, Repeats, Breaks}
 use Rattle.machine.specs.Events.{as_counter, State, state, events_of, next}
-use Rattle.machine.specs.Step.{machine, fresh, wrong_state, not_taken, is_full, number_of}
 use Rattle.machine.specs.History.{first, continuities}
 
 -- packets with counter c: a payload ..
@@ -96,63 +91,4 @@ corners =
     ∷ corner (state Crate Begin (At (as_counter 5)) Open false) (P 5 ∷ []) (Breaks ∷ []) ((5 ∷ []) ∷ [])
     ∷ corner (state Crate Begin Nothing Barred true) (S 5 ∷ []) (GoesOn ∷ []) ((1 ∷ 2 ∷ []) ∷ [])
     ∷ corner (state Crate Started Nothing Barred false) (S 5 ∷ []) (GoesOn ∷ []) ((4 ∷ 2 ∷ []) ∷ [])
-    ∷ []
-
--- ---- every pair of 1, 2, 24, 14, 16, 15
-
--- the numbers of the tests that hold
-unfoldable pub holding : List Check → List ℕ
-holding [] = []
-holding (c ∷ cs) = pick c.test (c.number ∷ holding cs) (holding cs)
-
--- in this machine, with this log, this packet would be refused by these two numbers and no other
-pub record RefusalPair : Type 0 where
-  pub of : Machine
-  pub log : List ℕ
-  pub packet : List ℕ
-  pub number : ℕ
-  pub later : ℕ
-
-abbrev pub pair : Machine → List ℕ → List ℕ → ℕ → ℕ → RefusalPair
-pair m l p a b = record { of = m; log = l; packet = p; number = a; later = b }
-
--- .. and it is by the first of them
-abbrev pub FirstOfTwo : RefusalPair → Type 0
-FirstOfTwo r =
-    (holding (not_taken r.packet (wrong_state r.of r.log) (is_full r.of r.packet r.log)) ≡ r.number ∷ r.later ∷ [])
-    × (number_of r.of r.packet r.log ≡ r.number)
-
--- a log with room for the events of any packet
-abbrev pub roomy : List ℕ
-roomy = replicate 24 0
-
--- a machine with a counter that no packet has, and one that took as many packets as there are indices
-abbrev pub stray : Mode → ℕ → Machine
-stray mo t = machine mo Begin (At (as_counter 16)) Barred false t 0
-
-abbrev pub last_index : Mode → Machine
-last_index mo = machine mo Begin Nothing Barred false 4_294_967_295 0
-
--- a packet with the start flag and a head, by its first two bytes and how many come after the head. 0x46 is no sync byte, 0xC1 has the error bit,
--- and with 179 a byte is missing
-abbrev pub start : ℕ → ℕ → ℕ → List ℕ
-start sync flags n = sync ∷ flags ∷ 0 ∷ 0x15 ∷ 0 ∷ 0 ∷ 1 ∷ 0xE0 ∷ replicate n 0
-
-abbrev pub pairs : Mode → List RefusalPair
-pairs mo =
-    pair (fresh mo) roomy (start 0x46 0x41 179) 1 2
-    ∷ pair (fresh mo) roomy (start 0x47 0xC1 179) 1 24
-    ∷ pair (stray mo 0) roomy (start 0x47 0x41 179) 1 14
-    ∷ pair (last_index mo) roomy (start 0x47 0x41 179) 1 16
-    ∷ pair (fresh mo) [] (start 0x47 0x41 179) 1 15
-    ∷ pair (fresh mo) roomy (start 0x46 0xC1 180) 2 24
-    ∷ pair (stray mo 0) roomy (start 0x46 0x41 180) 2 14
-    ∷ pair (last_index mo) roomy (start 0x46 0x41 180) 2 16
-    ∷ pair (fresh mo) [] (start 0x46 0x41 180) 2 15
-    ∷ pair (stray mo 0) roomy (start 0x47 0xC1 180) 24 14
-    ∷ pair (last_index mo) roomy (start 0x47 0xC1 180) 24 16
-    ∷ pair (fresh mo) [] (start 0x47 0xC1 180) 24 15
-    ∷ pair (stray mo 4_294_967_295) roomy (start 0x47 0x41 180) 14 16
-    ∷ pair (stray mo 0) [] (start 0x47 0x41 180) 14 15
-    ∷ pair (last_index mo) [] (start 0x47 0x41 180) 16 15
     ∷ []

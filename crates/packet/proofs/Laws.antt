@@ -1,4 +1,4 @@
--- What the definitions of `specs/` come to on the bytes, in each case. The functions' proofs find these by `packet-laws`,
+-- What the definitions of `specs/` come to on the bytes, in each case. The functions' proofs find these by `packet_laws`,
 -- and callers' cite them. A premise is a test of the code, or a promise of what it calls.
 -- Assumes nothing.
 use mathlib.Core.Path.{◌≡◌, refl, sym, ap, ◌∙◌}
@@ -24,7 +24,7 @@ use Rattle.packet.specs.declared.PartRead.{PartRead}
 use Rattle.packet.specs.contracts.PartRead.{the_type}
 use Rattle.packet.specs.declared.Tried.{Tried}
 use Rattle.packet.specs.Packet.{given_tried, given_part, not_packet, pid_field, counter_field, adaptation_flag, payload_flag, adaptation_length}
-use Rattle.packet.specs.Packet.{error_bit, error_flag, error_of, start_bit, start_flag, start_of, after_field, adaptation_there, content_at, payload_there}
+use Rattle.packet.specs.Packet.{start_bit, start_flag, start_of, after_field, adaptation_there, content_at, payload_there}
 use Rattle.packet.proofs.Theorems.{control-payload, control-adaptation}
 use Rattle.packet.specs.Packet.{tried, read_flag, read_pid, read_byte_four, read_counter, read_adaptation, read_payload}
 
@@ -39,9 +39,9 @@ module _ (xs : List ℕ) (a : Answer) where
   unfolding not_packet
   no-sync l h = simp (eq-eqb (length xs) 188 l, ne_eqb (get_or xs 0 0) 0x47 h)
 
-pub packet-off : (xs : List ℕ) → length xs ≡ 188 → get_or xs 0 0 ≡ 0x47 → Off (not_packet xs)
+pub packet_off : (xs : List ℕ) → length xs ≡ 188 → get_or xs 0 0 ≡ 0x47 → Off (not_packet xs)
 unfolding not_packet
-packet-off xs l s = (eq-other (length xs) 188 l, (eq-other (get_or xs 0 0) 0x47 s, tt))
+packet_off xs l s = (eq-other (length xs) 188 l, (eq-other (get_or xs 0 0) 0x47 s, tt))
 
 -- .. before other refusals
 module _ (xs : List ℕ) (cs : List Check) where
@@ -55,7 +55,7 @@ module _ (xs : List ℕ) (cs : List Check) where
     first-sync h = sym (first_of-first (not_packet xs ++ cs) 1 (eq-other (length xs) 188 l, tt) (ne-other (get_or xs 0 0) 0x47 h))
 
     pub first-after : get_or xs 0 0 ≡ 0x47 → first_of (not_packet xs ++ cs) ≡ first_of cs
-    first-after s = first_of-past (not_packet xs) cs (packet-off xs l s)
+    first-after s = first_of-past (not_packet xs) cs (packet_off xs l s)
 
   -- .. by the answer of `try_new`
   pub tried-first : (t : Tried) → given_tried t ≡ tried xs
@@ -68,15 +68,6 @@ module _ (xs : List ℕ) (cs : List Check) where
       go true b n h = rw h
       go false true n h = rw h
       go false false n h = rw h
-
--- .. which takes none but slices of 188 bytes
-pub tried-length : (xs : List ℕ) (t : Tried) → given_tried t ≡ tried xs → t ≡ Tried.Done → length xs ≡ 188
-unfolding not_packet
-tried-length xs t e h = go (other (length xs) 188) refl (ap (λ (a : Answer). a.number) (ap given_tried (sym h) ∙ e))
-  where
-    go : (b : Bool) → other (length xs) 188 ≡ b → 0 ≡ (pick b (answer 1 []) (pick (other (get_or xs 0 0) 0x47) (answer 2 []) (answer 0 []))).number → length xs ≡ 188
-    go true f z = absurd (omega (arith, z))
-    go false f z = other-false (length xs) 188 f
 
 -- ---- the header's fields, from the bytes
 
@@ -95,11 +86,7 @@ module _ (xs : List ℕ) where
         in_byte xs 2 0 8 0 refl,
       )
 
-  -- transport_error_indicator and payload_unit_start_indicator, of the second byte
-  pub error-is : error_of (get_or xs 1 0) ≡ error_flag xs
-  unfolding error_of error_flag bit
-  error-is = refl
-
+  -- payload_unit_start_indicator, of the second byte
   pub start_is : start_of (get_or xs 1 0) ≡ start_flag xs
   unfolding start_of start_flag bit
   start_is = refl
@@ -153,10 +140,6 @@ module _ (xs : List ℕ) where
 
 -- ---- what is read of a byte
 
-pub error-bit : (b : ℕ) → eqb (b / 128 % 2) 1 ≡ error_of b
-unfolding error_of bit
-error-bit b = refl
-
 pub start-bit : (b : ℕ) → eqb (b / 64 % 2) 1 ≡ start_of b
 unfolding start_of bit
 start-bit b = refl
@@ -165,7 +148,7 @@ start-bit b = refl
 
 module _ (xs : List ℕ) (l : length xs ≡ 188) (s : get_or xs 0 0 ≡ 0x47) where
   pub packet-is : (a : Answer) → unless (not_packet xs) a ≡ a
-  packet-is a = none-holds (not_packet xs) (packet-off xs l s) a
+  packet-is a = none-holds (not_packet xs) (packet_off xs l s) a
 
   pub tried-done : answer 0 [] ≡ tried xs
   tried-done = sym (packet-is _)
@@ -176,10 +159,6 @@ module _ (xs : List ℕ) (l : length xs ≡ 188) (s : get_or xs 0 0 ≡ 0x47) wh
   pub flag-done : (n i : ℕ) → n ≡ truth (eqb (bit_of xs i) 1) → answer 0 (n ∷ []) ≡ read_flag i xs
   unfolding bit
   flag-done n i e = value-done n _ e
-
-  pub error-done : (b : Bool) → b ≡ error_of (get_or xs 1 0) → answer 0 (truth b ∷ []) ≡ read_flag error_bit xs
-  unfolding error_flag
-  error-done b e = value-done _ _ (ap truth (e ∙ error-is xs))
 
   pub start-done : (b : Bool) → b ≡ start_of (get_or xs 1 0) → answer 0 (truth b ∷ []) ≡ read_flag start_bit xs
   unfolding start_flag
@@ -294,7 +273,7 @@ module _ (xs ys : List ℕ) (r : PartRead) where
     payload-part g = f ∙ part-done _ _ p n (ap given_part (sym e) ∙ g) (payload-within xs)
 
 -- what the functions' proofs search: of the adaptation field and of the payload by sets of their own, in which less is tried
-pub ruleset packet-laws = (wrong-length, no-sync, tried-done, flag-done, error-bit, error-done, start-bit, start-done, pid-done, four-done, counter-done, no_part, adaptation-part, payload-part, rules)
+pub ruleset packet_laws = (wrong-length, no-sync, tried-done, flag-done, start-bit, start-done, pid-done, four-done, counter-done, no_part, adaptation-part, payload-part, rules)
 
 pub ruleset flag-laws = (wrong-length, no-sync, byte_wide, adaptation-set, adaptation_clear, payload-set, payload_clear, rules)
 

@@ -74,14 +74,7 @@ start_bit = 9
 abbrev pub priority_bit : ℕ
 priority_bit = 10
 
--- transport_error_indicator: of a packet, and of its second byte, whose first bit it is
-unfoldable pub error_flag : List ℕ → Bool
-error_flag xs = flag xs error_bit
-
-unfoldable pub error_of : ℕ → Bool
-error_of b = flag (b ∷ []) 0
-
--- payload_unit_start_indicator, which comes after it, likewise
+-- payload_unit_start_indicator: of a packet, and of its second byte, which has transport_error_indicator before it
 unfoldable pub start_flag : List ℕ → Bool
 start_flag xs = flag xs start_bit
 

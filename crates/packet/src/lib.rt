@@ -2,7 +2,7 @@
 ghost use Rattle.std.specs.Prelude.{◌≡◌, eqb};
 ghost use Rattle.bits.specs.Answer.{part_of};
 ghost use Rattle.packet.specs.Packet.{given_tried, given_flag, given_pid, given_scrambling, given_control, given_counter, given_part};
-ghost use Rattle.packet.specs.Packet.{tried, read_flag, error_bit, start_bit, priority_bit, error_of, start_of, read_pid, read_byte_four, read_counter};
+ghost use Rattle.packet.specs.Packet.{tried, read_flag, error_bit, start_bit, priority_bit, start_of, read_pid, read_byte_four, read_counter};
 ghost use Rattle.packet.specs.Packet.{after_field, read_adaptation, read_payload};
 
 use bits::part;
@@ -74,13 +74,6 @@ pub fn is_sync_byte(b: u8) -> bool
     b == SYNC_BYTE
 }
 
-// transport_error_indicator, of a packet's second byte.
-pub fn error_indicator(second: u8) -> bool
-    ensures { result ≡ error_of second }
-{
-    second / 128 % 2 == 1
-}
-
 // payload_unit_start_indicator, of a packet's second byte.
 pub fn start_indicator(second: u8) -> bool
     ensures { result ≡ start_of second }
@@ -117,7 +110,7 @@ pub fn transport_error_indicator(buf: &[u8]) -> FlagRead
     if buf[0] != SYNC_BYTE {
         return FlagRead::NoSync;
     }
-    FlagRead::Done(error_indicator(buf[1]))
+    FlagRead::Done(buf[1] / 128 % 2 == 1)
 }
 
 pub fn payload_unit_start_indicator(buf: &[u8]) -> FlagRead

@@ -82,19 +82,19 @@ module _ (xs : List ℕ) where
     unfolding not_head
     short h = simp (lt-ltb (length xs) 6 h)
 
-    bad-start : 6 ≤ length xs → (field xs 0 24 ≡ 1 → ⊥) → answer 4 [] ≡ unless (not_head xs) a
+    bad_start : 6 ≤ length xs → (field xs 0 24 ≡ 1 → ⊥) → answer 4 [] ≡ unless (not_head xs) a
     unfolding not_head
-    bad-start l h = simp (le-ltb (length xs) 6 l, ne_eqb (field xs 0 24) 1 h)
+    bad_start l h = simp (le-ltb (length xs) 6 l, ne_eqb (field xs 0 24) 1 h)
 
     module _ (k : Known xs) (l : 6 ≤ length xs) where
       pub bad-first : (get_or xs 0 0 ≡ 0 → ⊥) → answer 4 [] ≡ unless (not_head xs) a
-      bad-first h = bad-start l (omega (arith, prefix-is xs, k 0))
+      bad-first h = bad_start l (omega (arith, prefix-is xs, k 0))
 
       pub bad_second : (get_or xs 1 0 ≡ 0 → ⊥) → answer 4 [] ≡ unless (not_head xs) a
-      bad_second h = bad-start l (omega (arith, prefix-is xs, k 1))
+      bad_second h = bad_start l (omega (arith, prefix-is xs, k 1))
 
       pub bad_third : (get_or xs 2 0 ≡ 1 → ⊥) → answer 4 [] ≡ unless (not_head xs) a
-      bad_third h = bad-start l (omega (arith, prefix-is xs, k 2))
+      bad_third h = bad_start l (omega (arith, prefix-is xs, k 2))
 
     -- the other way: where the answer is no refusal, the bytes begin with a head
     pub headed-done : (unless (not_head xs) a).number ≡ 0 → Headed xs
@@ -129,14 +129,14 @@ module _ (xs : List ℕ) (r : HeadRead) (g : given_head r ≡ read_head xs) wher
     pub refused_short : r ≡ HeadRead.ShortHeader → answer 3 [] ≡ unless (not_head xs) a
     refused_short e = refused _ e (omega arith)
 
-    pub refused-start : r ≡ HeadRead.BadStartCode → answer 4 [] ≡ unless (not_head xs) a
-    refused-start e = refused _ e (omega arith)
+    pub refused_start : r ≡ HeadRead.BadStartCode → answer 4 [] ≡ unless (not_head xs) a
+    refused_start e = refused _ e (omega arith)
 
   pub none-short : r ≡ HeadRead.ShortHeader → [] ≡ part_of (contents_part xs) xs
   none-short e = part_none _ _ _ (omega arith) (refused_short _ e)
 
   pub none-start : r ≡ HeadRead.BadStartCode → [] ≡ part_of (contents_part xs) xs
-  none-start e = part_none _ _ _ (omega arith) (refused-start _ e)
+  none-start e = part_none _ _ _ (omega arith) (refused_start _ e)
 
   module _ (e : r ≡ HeadRead.Done) where
     accepted : Headed xs
@@ -212,4 +212,4 @@ parsed (Unknown n) k = refl
 pub id-told : (s k : StreamId) (t : Bool) → s ≡ k → t ≡ parsed_id (kind_of k) → t ≡ parsed_id (kind_of s)
 id-told s k t e f = f ∙ ap (λ (i : StreamId). parsed_id (kind_of i)) (sym e)
 
-pub ruleset pes_laws = (id-at, unknown, audio_left, video-left, short, bad-first, bad_second, bad_third, head_done, refused_short, refused-start, none-short, none-start, six_there, byte_there, id-done, unbounded, bounded, contents-parsed, contents-bare, part-rests, parsed, id-told, rules)
+pub ruleset pes_laws = (id-at, unknown, audio_left, video-left, short, bad-first, bad_second, bad_third, head_done, refused_short, refused_start, none-short, none-start, six_there, byte_there, id-done, unbounded, bounded, contents-parsed, contents-bare, part-rests, parsed, id-told, rules)

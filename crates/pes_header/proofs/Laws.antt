@@ -89,8 +89,8 @@ module _ (xs : List ℕ) where
   pub short-head : (r : ContentsRead) → r ≡ ContentsRead.ShortHeader → given_contents r ≡ read_contents_part xs → answer 3 [] ≡ header_payload xs
   short-head r e g = refused-head r _ e g (omega arith)
 
-  pub bad-start : (r : ContentsRead) → r ≡ ContentsRead.BadStartCode → given_contents r ≡ read_contents_part xs → answer 4 [] ≡ header_payload xs
-  bad-start r e g = refused-head r _ e g (omega arith)
+  pub bad_start : (r : ContentsRead) → r ≡ ContentsRead.BadStartCode → given_contents r ≡ read_contents_part xs → answer 4 [] ≡ header_payload xs
+  bad_start r e g = refused-head r _ e g (omega arith)
 
   pub bare : (r : ContentsRead) (p n : ℕ) → r ≡ ContentsRead.Payload p n → given_contents r ≡ read_contents_part xs
       → answer 0 (p ∷ n ∷ []) ≡ header_payload xs
@@ -156,4 +156,4 @@ module _ (xs : List ℕ) where
     unfolding payload_bytes
     payload-part p n ys e f = f ∙ part-done _ _ p n (ap given_payload (sym e) ∙ g) payload-within
 
-pub ruleset header-laws = (short-head, bad-start, bare, parsed-fits, contents-refused, never-flagged, contents-accepted, no_payload, payload-part, rules)
+pub ruleset header-laws = (short-head, bad_start, bare, parsed-fits, contents-refused, never-flagged, contents-accepted, no_payload, payload-part, rules)

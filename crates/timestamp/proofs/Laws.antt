@@ -79,16 +79,16 @@ module _ (xs : List ℕ) (e : ℕ) where
   prefixed_short h = simp (lt-ltb (length xs) 5 h)
 
   module _ (h : 5 ≤ length xs) (k : (i : ℕ) → Fits w8 (get_or xs i 0)) where
-    prefix-of : field xs 0 4 ≡ get_or xs 0 0 / 16
-    prefix-of = omega (arith, in_byte xs 0 0 4 4 refl, k 0)
+    prefix_of : field xs 0 4 ≡ get_or xs 0 0 / 16
+    prefix_of = omega (arith, in_byte xs 0 0 4 4 refl, k 0)
 
     pub prefixed_same : (r : TimestampRead) → get_or xs 0 0 / 16 ≡ e → given r ≡ read_stamp xs → given r ≡ read_prefixed e xs
     unfolding read_prefixed
-    prefixed_same r p g = g ∙ simp (le-ltb (length xs) 5 h, eq-eqb (field xs 0 4) e (prefix-of ∙ p))
+    prefixed_same r p g = g ∙ simp (le-ltb (length xs) 5 h, eq-eqb (field xs 0 4) e (prefix_of ∙ p))
 
     pub prefixed-other : (get_or xs 0 0 / 16 ≡ e → ⊥) → answer 13 (e ∷ (get_or xs 0 0 / 16) ∷ []) ≡ read_prefixed e xs
     unfolding read_prefixed
-    prefixed-other p = simp (le-ltb (length xs) 5 h, prefix-of, ne_eqb (get_or xs 0 0 / 16) e p)
+    prefixed-other p = simp (le-ltb (length xs) 5 h, prefix_of, ne_eqb (get_or xs 0 0 / 16) e p)
 
 module _ (v : ℕ) where
   pub made : v < 2 ^ 34 → answer 0 (v ∷ []) ≡ make_stamp v

@@ -228,7 +228,7 @@ module _ (ps : List (List ℕ)) (all : All IsPacket ps) where
 
   -- AFTER AN END the unit is closed and its bytes are exactly the header's payload followed by the continues since the begin, and none
   -- across a break: whatever the machine's state, whatever was gathered before, and whatever of it was refused by 20
-  pub unit-of-run : (s : State) (t : Standing) → GatheringStands t → (pre mid r : List Event) (b e : Event)
+  pub unit_of-run : (s : State) (t : Standing) → GatheringStands t → (pre mid r : List Event) (b e : Event)
       → run 0 s ps ≡ pre ++ (b ∷ (mid ++ (e ∷ r))) → Kind 2 b → All Quiet mid → Kind 4 e
       → (All (Kind 3) mid → length (unit_bytes ps b mid) ≤ length t.store)
       → (All (Kind 3) mid
@@ -238,7 +238,7 @@ module _ (ps : List (List ℕ)) (all : All IsPacket ps) where
       ⊎ (Some (Kind 5) mid
       × ((gather_all ps t (pre ++ (b ∷ (mid ++ (e ∷ []))))).gathering ≡ emptied)
       × (read_at ps (gather_all ps t (pre ++ (b ∷ (mid ++ (e ∷ []))))) e ≡ []))
-  unit-of-run s t ok pre mid r b e f kb q ke room =
+  unit_of-run s t ok pre mid r b e f kb q ke room =
       ⊎_elim (λ k. let w = whole k in inl (k, w.0, w.1, w.2)) (λ x. let n = none x in inr (x, n.0, n.1))
       (between 0 s ps pre mid (e ∷ r) b f kb q)
     where

@@ -25,17 +25,17 @@ use Rattle.units.specs.Units.{unit_bytes, last_event, Inside, GatheringStands, K
 -- ---- the calls over events: what a call with each kind does
 
 -- an event whose packet is there and whose part lies in it is refused for its state alone
-pub packet-there : (ps : List (List ℕ)) (i : ℕ) → All IsPacket ps → i < length ps → IsPacket (get_or ps i [])
-packet-there [] i a h = absurd (omega arith)
-packet-there (p ∷ ps) zero a h = a.0
-packet-there (p ∷ ps) (suc i) a h = packet-there ps i a.1 (omega arith)
+pub packet_there : (ps : List (List ℕ)) (i : ℕ) → All IsPacket ps → i < length ps → IsPacket (get_or ps i [])
+packet_there [] i a h = absurd (omega arith)
+packet_there (p ∷ ps) zero a h = a.0
+packet_there (p ∷ ps) (suc i) a h = packet_there ps i a.1 (omega arith)
 
 event-good : (e : Event) → Known e → e.place + e.length ≤ 188 → wrong_event e ≡ false
 event-good e k h = sym (part-tested e k) ∙ le-ltb 188 (e.place + e.length) h
 
 module _ (ps : List (List ℕ)) (all : All IsPacket ps) (t : Standing) (e : Event) (k : Known e) (i : Inside ps e) (ok : GatheringStands t) where
   possible : CallStands t.gathering (packet_of ps e) e t.store
-  possible = let q = packet-there ps e.index all i.0 in (q.0, q.1, event-good e k i.1, ok)
+  possible = let q = packet_there ps e.index all i.0 in (q.0, q.1, event-good e k i.1, ok)
 
   -- where the store has room, it is taken
   accepted : kept t.gathering e + length (added t.gathering (packet_of ps e) e) ≤ length t.store
@@ -56,10 +56,10 @@ read-store p s u o q h f =
     bytes-are g p s Store u (sym z) refl (sym f ∙ part_in 0 (length u) s (omega arith))
 
 -- what belongs to a unit, as a part of its begin's packet
-own_in-packet : (p : List ℕ) (e : Event) → length p ≡ 188 → e.place + e.length ≤ 188
+own_in_packet : (p : List ℕ) (e : Event) → length p ≡ 188 → e.place + e.length ≤ 188
     → (e.place + own_place (event_bytes p e) + length (own_bytes (event_bytes p e)) ≤ 188)
     × (own_bytes (event_bytes p e) ≡ part_at (e.place + own_place (event_bytes p e)) (length (own_bytes (event_bytes p e))) p)
-own_in-packet p e l h =
+own_in_packet p e l h =
     let x = event-part p e l h in
     let a = own_place (event_bytes p e) in
     let n = length (own_bytes (event_bytes p e)) in
@@ -77,12 +77,12 @@ module _ (ps : List (List ℕ)) (all : All IsPacket ps) (t : Standing) (e : Even
       × (read_at ps (called ps t e) e ≡ own_bytes (bytes_at ps e))
   begin_opens k ok h =
       let p = packet_of ps e in
-      let q = packet-there ps e.index all i.0 in
+      let q = packet_there ps e.index all i.0 in
       let u : List ℕ = own_bytes (bytes_at ps e) in
       let a : ℕ = e.place + own_place (bytes_at ps e) in
       let g : Gathering = gathering true (length u) (Packet a) in
       let s : List ℕ = placed_at t.store 0 u in
-      let o = own_in-packet p e q.0 i.1 in
+      let o = own_in_packet p e q.0 i.1 in
       let d = kept-begin t.gathering e k in
       let j = added-begin t.gathering p e k in
       let c = accepted ps all t e (omega arith) i ok (rw (d, ← j) (omega arith)) in
@@ -105,7 +105,7 @@ module _ (ps : List (List ℕ)) (all : All IsPacket ps) (t : Standing) (e : Even
       × (read_at ps (called ps t e) e ≡ u ++ bytes_at ps e)
   continue_adds u n k w h =
       let p = packet_of ps e in
-      let q = packet-there ps e.index all i.0 in
+      let q = packet_there ps e.index all i.0 in
       let x : List ℕ = bytes_at ps e in
       let g : Gathering = gathering true (length (u ++ x)) Store in
       let s : List ℕ = placed_at t.store (length u) x in
@@ -212,7 +212,7 @@ module _ (ps : List (List ℕ)) (all : All IsPacket ps) where
         let g = gathering false (length u) Store in
         let h : called ps t₁ e ≡ standing g t₁.store = x.1 ∙ rw d.1.count in
         let f : gather_all ps t (b ∷ (cs ++ (e ∷ []))) ≡ standing g t₁.store = gather_append ps t (b ∷ cs) (e ∷ []) ∙ h in
-        let q = packet-there ps e.index all ie.0 in (
+        let q = packet_there ps e.index all ie.0 in (
           taken-append ps t (b ∷ cs) (e ∷ []) d.0 (x.0, tt),
           ap (λ (z : Standing). z.gathering) f,
           ap (λ (z : Standing). read_at ps z e) f
@@ -262,7 +262,7 @@ module _ (ps : List (List ℕ)) (all : All IsPacket ps) where
       ((a.0, rw a.1 b.0), ap (λ (t : Standing). gather_all ps t es) a.1 ∙ b.1)
 
   pub none_read : (s : List ℕ) (e : Event) → Inside ps e → read_at ps (standing emptied s) e ≡ []
-  none_read s e i = sym (read-store (packet_of ps e) s [] false (packet-there ps e.index all i.0) (omega arith) refl)
+  none_read s e i = sym (read-store (packet_of ps e) s [] false (packet_there ps e.index all i.0) (omega arith) refl)
 
 -- ---- whatever was refused by 20, a state that lies in its store and packet stays such
 
@@ -278,7 +278,7 @@ next-good g p e n k l h ok r = go (eqb e.kind 1) refl (eqb e.kind 2) refl (eqb e
     go true f₁ t₂ f₂ t₃ f₃ t₄ f₄ = rw (next_start g p e (eqb-true e.kind 1 f₁)) ok
     go false f₁ true f₂ t₃ f₃ t₄ f₄ =
         let q : e.kind ≡ 2 = eqb-true e.kind 2 f₂ in
-        let i = own_in-packet p e l h in
+        let i = own_in_packet p e l h in
         let m : length (own_bytes (event_bytes p e)) ≤ n = rw (added-begin g p e q) (omega arith) in
         let a = e.place + own_place (event_bytes p e) in
         rw (next-begin g p e q) (stands-gathering _ n m (le-ltb 188 (a + length (own_bytes (event_bytes p e))) i.0))
@@ -298,7 +298,7 @@ module _ (ps : List (List ℕ)) (all : All IsPacket ps) where
   stays-good t e k i ok = go (leb (kept t.gathering e + length (added t.gathering (packet_of ps e) e)) (length t.store)) refl
     where
       q : IsPacket (packet_of ps e)
-      q = packet-there ps e.index all i.0
+      q = packet_there ps e.index all i.0
 
       same : (s : Standing) → called ps t e ≡ s → GatheringStands s × (length s.store ≡ length t.store)
           → GatheringStands (called ps t e) × (length (called ps t e).store ≡ length t.store)

@@ -495,11 +495,11 @@ module _ (start id c : ℕ) where
           rw (ff, lt-ltb r 184 (omega arith), lt-ltb r 183 (omega arith), ← f, replicate-append-replicate {A = ℕ} (182 - r) r 255, n)
 
   -- the payload over the last bytes of FF
-  packet-made : (h b x a₁ a₂ : List ℕ) → length h + length b ≤ 184
+  packet_made : (h b x a₁ a₂ : List ℕ) → length h + length b ≤ 184
       → x ≡ four (length h + length b) ++ (stuffing (length h + length b) ++ replicate (length h + length b) 255)
       → a₁ ≡ placed_at x (188 - (length h + length b)) h → a₂ ≡ placed_at a₁ (188 - length b) b → a₂ ≡ carrier start id c (h ++ b)
   unfolding carrier
-  packet-made h b x a₁ a₂ k e w₁ w₂ =
+  packet_made h b x a₁ a₂ k e w₁ w₂ =
       let r = length h + length b in
       let front = four r ++ stuffing r in
       let p = 188 - r in
@@ -526,7 +526,7 @@ module _ (start id c : ℕ) where
       → a₁ ≡ placed_at x (188 - (length h + length b)) h → a₂ ≡ placed_at a₁ (188 - length b) b
       → o₁ ≡ placed_at out 4 (take 184 (drop 4 a₂)) → o₂ ≡ placed_at o₁ 0 (take 4 a₂) → o₂ ≡ placed_at out 0 (carrier start id c (h ++ b))
   packet-put out h b x a₁ a₂ o₁ o₂ k l e w₁ w₂ v₁ v₂ =
-      let m = packet-made h b x a₁ a₂ k e w₁ w₂ in
+      let m = packet_made h b x a₁ a₂ k e w₁ w₂ in
       let n : length a₂ ≡ 188 = ap length m ∙ carrier-length (h ++ b) (omega (arith, length-append h b)) in
       let t : take 184 (drop 4 a₂) ≡ drop 4 a₂ = take_all 184 (drop 4 a₂) (simp length-drop (omega arith)) in
       v₂ ∙ (rw (v₁, t) (placed_split out a₂ 4 (omega arith) (omega arith) ∙ ap (placed_at out 0) m))
@@ -771,7 +771,7 @@ pub ruleset field_laws = (times_none, times-alone, times-pair, escr-none, escr-t
 
 pub ruleset header-laws = (head-written, header_made, rules)
 
-pub ruleset packet-laws = (blank-full, blank_zero, blank_short, packet-put, rules)
+pub ruleset packet_laws = (blank-full, blank_zero, blank_short, packet-put, rules)
 
 pub ruleset write_laws = (write-route, write_unit, write_long, write-full, write_done, rules)
 

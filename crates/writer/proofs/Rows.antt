@@ -127,12 +127,12 @@ none_of_four false true c d q = false_true (sym q)
 none_of_four false false true d q = false_true (sym q)
 none_of_four false false false d q = (refl, refl, refl, q)
 
-none-of-five : (a b c d e : Bool) → (a || b || c || d || e) ≡ false → (a ≡ false) × (b ≡ false) × (c ≡ false) × (d ≡ false) × (e ≡ false)
-none-of-five true b c d e q = false_true (sym q)
-none-of-five false true c d e q = false_true (sym q)
-none-of-five false false true d e q = false_true (sym q)
-none-of-five false false false true e q = false_true (sym q)
-none-of-five false false false false e q = (refl, refl, refl, refl, q)
+none-of_five : (a b c d e : Bool) → (a || b || c || d || e) ≡ false → (a ≡ false) × (b ≡ false) × (c ≡ false) × (d ≡ false) × (e ≡ false)
+none-of_five true b c d e q = false_true (sym q)
+none-of_five false true c d e q = false_true (sym q)
+none-of_five false false true d e q = false_true (sym q)
+none-of_five false false false true e q = false_true (sym q)
+none-of_five false false false false e q = (refl, refl, refl, refl, q)
 
 -- by what `stray_unit` answers of a row
 module _ (w : List ℕ) (r : Bool) (e : r ≡ stray_unit w) where
@@ -147,7 +147,7 @@ module _ (w : List ℕ) (r : Bool) (e : r ≡ stray_unit w) where
 
     fair-values : (too_large 9 11 16 w ≡ false) × (too_large 12 13 32 w ≡ false) × (too_large 14 15 8 w ≡ false) × (too_large 16 17 8 w ≡ false)
         × (too_large 18 19 16 w ≡ false)
-    fair-values = none-of-five (too_large 9 11 16 w) (too_large 12 13 32 w) (too_large 14 15 8 w) (too_large 16 17 8 w) (too_large 18 19 16 w) fair.3
+    fair-values = none-of_five (too_large 9 11 16 w) (too_large 12 13 32 w) (too_large 14 15 8 w) (too_large 16 17 8 w) (too_large 18 19 16 w) fair.3
 
     pub fair-length : length w ≡ 20
     fair-length = eqb-true (length w) 20 (not-false (eqb (length w) 20) fair.0)
@@ -194,7 +194,7 @@ module _ (w : List ℕ) (r : Bool) (e : r ≡ stray_unit w) where
 
 pub ruleset row_laws = (large-absent, large_there, not-large, row-untimed, row-pts, row-both, row-no-escr, row-escr, row-no-rate, row-rate, row-no_byte, row-byte, row-no-crc, row-crc, rules)
 
-pub ruleset stray-laws = (stray-length, stray-id, stray-times, stray-value, rules)
+pub ruleset stray_laws = (stray-length, stray-id, stray-times, stray-value, rules)
 
 pub ruleset large_laws = (large-escr, large-rate, large-trick, large-copy, large-crc, said, rules)
 

@@ -85,10 +85,10 @@ pub enum Found<'a> {
         /// The clock reference.
         pcr: ClockRef,
     },
-    /// A packet was dropped because it is marked: as damaged, or as scrambled. The latter is reported with [`Scrambled::Report`] only.
+    /// A packet that is marked as damaged or as scrambled was dropped. Only [`Marked::Report`] has this reported.
     #[non_exhaustive]
     Dropped {
-        /// The PID, as the packet has it: of a damaged one it may be wrong.
+        /// The PID.
         pid: Pid,
         /// The packet.
         index: u64,
@@ -149,10 +149,11 @@ impl FoundUnit<'_> {
     }
 }
 
-/// What [`Demux`] does with packets whose payload is scrambled ([`Packet::transport_scrambling_control`]).
+/// What [`Demux`] does with marked packets: those that an earlier receiver marked as damaged ([`Packet::transport_error_indicator`]), and
+/// those whose payload is scrambled ([`Packet::transport_scrambling_control`]).
 #[derive(Clone, Copy, Debug, Default, PartialEq, Eq, Hash)]
 #[non_exhaustive]
-pub enum Scrambled {
+pub enum Marked {
     /// Drops them, as the demultiplexer of mpeg2ts-reader does: nothing is found in them, and their counter does not count. So the next
     /// packet of the PID that is not dropped is a continuity error, unless the 16 counters have come round or it is the same packet again,
     /// which a station may have sent twice.
@@ -168,7 +169,7 @@ pub enum Scrambled {
 #[derive(Clone, Copy, Debug, PartialEq, Eq, Hash)]
 #[non_exhaustive]
 pub enum Mark {
-    /// An earlier receiver found it damaged ([`Packet::transport_error_indicator`]). It may be marked as scrambled too.
+    /// An earlier receiver found it damaged. It may be marked as scrambled too.
     Damaged,
     /// Its payload is scrambled.
     Scrambled,
@@ -188,7 +189,7 @@ impl Mark {
 }
 
 /// Finds the units, clock references and continuity errors of a recording, with a machine and a store for each PID. Packets of the stuffing
-/// PID, and packets whose payload is scrambled, are dropped.
+/// PID, and packets that are marked as damaged or scrambled, are dropped.
 ///
 /// ```
 /// use clomaverift::{Demux, Found, Unit};
@@ -207,28 +208,6 @@ impl Mark {
 /// demux.push(&recording, &mut tell);
 /// demux.finish(&mut tell);
 /// assert_eq!(told, [(0x100, 97_200, vec![1; 500]), (0x101, 93_600, vec![2; 100])]);
-/// # Ok::<(), clomaverift::Error>(())
-/// ```
-///
-/// # Packets that are marked as damaged
-///
-/// A receiver that finds errors in a packet which it cannot correct sets its transport_error_indicator. What such a packet holds may be
-/// noise, so a machine refuses it ([`Error::Damaged`](crate::Error::Damaged)), and the demultiplexer of mpeg2ts-reader drops it. `Demux`
-/// reports it as [`Found::Dropped`] and goes on as if it had not come: the next packet of its PID is a continuity error if a packet is
-/// missing there.
-///
-/// ```
-/// use clomaverift::{Demux, Found, Mark, Packet, Unit};
-///
-/// let mut recording = Unit::new(0x100, 0xE0).packets(&[1; 500])?; // three packets
-/// recording[Packet::SIZE + 1] |= 0x80; // the second is marked as damaged
-/// let (mut damaged, mut breaks) = (Vec::new(), Vec::new());
-/// Demux::new().push(&recording, |found| match found {
-///     Found::Dropped { pid, index, mark: Mark::Damaged, .. } => damaged.push((u16::from(pid), index)),
-///     Found::ContinuityError { index, .. } => breaks.push(index),
-///     _ => (),
-/// });
-/// assert_eq!((damaged, breaks), (vec![(0x100, 1)], vec![2]));
 /// # Ok::<(), clomaverift::Error>(())
 /// ```
 ///
@@ -305,7 +284,7 @@ pub struct Demux {
     slots: Slots,
     streams: Vec<Stream>,
     mode: Mode,
-    scrambled: Scrambled,
+    marked: Marked,
     /// The most bytes of a unit.
     unit: usize,
     /// The most bytes of all stores.
@@ -327,20 +306,20 @@ impl fmt::Debug for Demux {
     fn fmt(&self, f: &mut fmt::Formatter<'_>) -> fmt::Result {
         let mut parts = f.debug_struct("Demux");
         parts.field("index", &self.index).field("streams", &self.streams);
-        parts.field("mode", &self.mode).field("scrambled", &self.scrambled);
+        parts.field("mode", &self.mode).field("marked", &self.marked);
         parts.field("at_most", &self.unit).field("memory", &self.memory).field("held", &self.held).finish()
     }
 }
 
 impl Demux {
-    /// For every PID except that of stuffing, in [`Mode::Crate`]. Scrambled packets are dropped; a unit has at most 16 MiB, and all stores
+    /// For every PID except that of stuffing, in [`Mode::Crate`]. Marked packets are dropped; a unit has at most 16 MiB, and all stores
     /// together 64 MiB.
     #[must_use]
     pub fn new() -> Demux {
         let mut slots = Slots::all(NEW);
         slots.set(Pid::STUFFING, UNWANTED);
-        let (streams, mode, scrambled) = (Vec::new(), Mode::default(), Scrambled::default());
-        Demux { slots, streams, mode, scrambled, unit: UNIT, memory: MEMORY, held: 0, free_again: 0, index: 0 }
+        let (streams, mode, marked) = (Vec::new(), Mode::default(), Marked::default());
+        Demux { slots, streams, mode, marked, unit: UNIT, memory: MEMORY, held: 0, free_again: 0, index: 0 }
     }
 
     /// The same in [`Mode::Standard`]: for stations that send packets twice.
@@ -386,22 +365,22 @@ impl Demux {
         Demux { mode, ..self }
     }
 
-    /// With scrambled packets treated like this.
+    /// With marked packets treated like this.
     ///
     /// ```
-    /// use clomaverift::{Demux, Found, Mark, Scrambled, Unit};
+    /// use clomaverift::{Demux, Found, Mark, Marked, Unit};
     ///
     /// let mut recording = Unit::new(0x100, 0xE0).packets(&[1; 100])?;
     /// recording[3] |= 0x80; // the first scrambling bit
     /// Demux::new().push(&recording, |found| panic!("{found:?}"));
     ///
-    /// let mut demux = Demux::new().scrambled(Scrambled::Report);
+    /// let mut demux = Demux::new().marked(Marked::Report);
     /// demux.push(&recording, |found| assert!(matches!(found, Found::Dropped { mark: Mark::Scrambled, .. })));
     /// # Ok::<(), clomaverift::Error>(())
     /// ```
     #[must_use]
-    pub fn scrambled(self, scrambled: Scrambled) -> Demux {
-        Demux { scrambled, ..self }
+    pub fn marked(self, marked: Marked) -> Demux {
+        Demux { marked, ..self }
     }
 
     /// With at most so many bytes for a unit.
@@ -479,10 +458,13 @@ impl Demux {
         if slot == UNWANTED {
             return;
         }
-        match (Mark::of(&packet), self.scrambled) {
-            (None, _) | (Some(Mark::Scrambled), Scrambled::Take) => (),
-            (Some(Mark::Scrambled), Scrambled::Drop) => return,
-            (Some(mark), _) => return tell(Found::Dropped { pid, index, mark }),
+        if self.marked != Marked::Take {
+            if let Some(mark) = Mark::of(&packet) {
+                if self.marked == Marked::Report {
+                    tell(Found::Dropped { pid, index, mark });
+                }
+                return;
+            }
         }
         if let Some(Ok(pcr)) = packet.adaptation_field().map(|field| field.pcr()) {
             tell(Found::Clock { pid, index, pcr });
@@ -837,7 +819,7 @@ mod tests {
     }
 
     /// A unit of four packets, of which the second is marked as damaged and the third as scrambled and damaged.
-    fn damaged_packets() -> Vec<u8> {
+    fn marked_packets() -> Vec<u8> {
         let mut unit = Unit::new(0x30, 0xE0).packets(&[1; 700]).unwrap();
         unit[188 + 1] |= 0x80;
         unit[2 * 188 + 1] |= 0x80;
@@ -846,75 +828,37 @@ mod tests {
     }
 
     #[test]
-    fn damaged_packets_are_reported_and_their_counters_do_not_count() {
+    fn marked_packets_are_dropped_and_their_counters_do_not_count() {
+        let expected = ["0 start Pid(0030)", "0 begin Pid(0030) Video(0)", "3 error Pid(0030)"];
+        assert_eq!(lines(Demux::new(), &marked_packets()), expected);
+        assert_eq!(lines(Demux::new().marked(Marked::Drop), &marked_packets()), expected);
+    }
+
+    #[test]
+    fn marked_packets_are_reported_on_demand() {
+        let mut packets = marked_packets();
+        packets[3 * 188 + 3] |= 0xC0;
         let expected = [
             "0 start Pid(0030)",
             "0 begin Pid(0030) Video(0)",
             "1 dropped Pid(0030) Damaged",
             "2 dropped Pid(0030) Damaged",
-            "3 error Pid(0030)",
-        ];
-        for mode in [Mode::Crate, Mode::Standard] {
-            for scrambled in [Scrambled::Drop, Scrambled::Report, Scrambled::Take] {
-                let demux = Demux::new().mode(mode).scrambled(scrambled);
-                assert_eq!(lines(demux, &damaged_packets()), expected, "{mode:?}, {scrambled:?}");
-            }
-        }
-        assert_eq!(lines(Demux::new().only(&[Pid::PAT]), &damaged_packets()), [""; 0]);
-    }
-
-    #[test]
-    fn a_damaged_packet_begins_no_stream_and_has_no_clock() {
-        let mut recording = [Unit::new(0x30, 0xE0).packets(&[1; 100]).unwrap(), clock_packet(0x30)].concat();
-        recording[1] |= 0x80;
-        recording[188 + 1] |= 0x80;
-        let expected = ["0 dropped Pid(0030) Damaged", "1 dropped Pid(0030) Damaged"];
-        let mut demux = Demux::new().scrambled(Scrambled::Take);
-        demux.push(&recording, |_| ());
-        assert!(demux.streams.is_empty());
-        assert_eq!(lines(Demux::new(), &recording), expected);
-    }
-
-    /// A unit of four packets, of which the second and the third are scrambled.
-    fn scrambled_packets() -> Vec<u8> {
-        let mut unit = Unit::new(0x30, 0xE0).packets(&[1; 700]).unwrap();
-        unit[188 + 3] |= 0x80;
-        unit[2 * 188 + 3] |= 0x40;
-        unit
-    }
-
-    #[test]
-    fn scrambled_packets_are_dropped_and_their_counters_do_not_count() {
-        let expected = ["0 start Pid(0030)", "0 begin Pid(0030) Video(0)", "3 error Pid(0030)"];
-        assert_eq!(lines(Demux::new(), &scrambled_packets()), expected);
-        assert_eq!(lines(Demux::new().scrambled(Scrambled::Drop), &scrambled_packets()), expected);
-    }
-
-    #[test]
-    fn scrambled_packets_are_reported_on_demand() {
-        let mut packets = scrambled_packets();
-        packets[3 * 188 + 3] |= 0xC0;
-        let expected = [
-            "0 start Pid(0030)",
-            "0 begin Pid(0030) Video(0)",
-            "1 dropped Pid(0030) Scrambled",
-            "2 dropped Pid(0030) Scrambled",
             "3 dropped Pid(0030) Scrambled",
             "0 unit Pid(0030) None None 175 false",
         ];
-        assert_eq!(lines(Demux::new().scrambled(Scrambled::Report), &packets), expected);
-        let others = Demux::new().scrambled(Scrambled::Report).only(&[Pid::PAT]);
+        assert_eq!(lines(Demux::new().marked(Marked::Report), &packets), expected);
+        let others = Demux::new().marked(Marked::Report).only(&[Pid::PAT]);
         assert_eq!(lines(others, &packets), [""; 0]);
     }
 
     #[test]
-    fn scrambled_packets_are_taken_on_demand() {
+    fn marked_packets_are_taken_on_demand() {
         let expected = ["0 start Pid(0030)", "0 begin Pid(0030) Video(0)", "0 unit Pid(0030) None None 700 false"];
-        assert_eq!(lines(Demux::new().scrambled(Scrambled::Take), &scrambled_packets()), expected);
+        assert_eq!(lines(Demux::new().marked(Marked::Take), &marked_packets()), expected);
         let mut clock = clock_packet(0x32);
         clock[3] |= 0x80;
         assert_eq!(lines(Demux::new(), &clock), [""; 0]);
-        assert_eq!(lines(Demux::new().scrambled(Scrambled::Take), &clock), ["0 clock Pid(0032) 27000015"]);
+        assert_eq!(lines(Demux::new().marked(Marked::Take), &clock), ["0 clock Pid(0032) 27000015"]);
     }
 
     #[test]
@@ -1057,11 +1001,11 @@ mod tests {
             lost.drain(at * 188..(at + 1) * 188);
             let told = lines(Demux::standard(), &lost);
             assert_eq!((told.last().unwrap().as_str(), told.len()), (whole, 6));
-            for (byte, mark, reported) in [(1, 0x80, 1), (3, 0x40, 0)] {
+            for mark in [(1, 0x80), (3, 0x40)] {
                 let mut marked = twice(&unit);
-                marked[at * 188 + byte] |= mark;
+                marked[at * 188 + mark.0] |= mark.1;
                 let told = lines(Demux::standard(), &marked);
-                assert_eq!((told.last().unwrap().as_str(), told.len()), (whole, 6 + reported));
+                assert_eq!((told.last().unwrap().as_str(), told.len()), (whole, 6));
             }
         }
     }

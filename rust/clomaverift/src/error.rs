@@ -2,7 +2,7 @@
 
 use core::fmt;
 
-/// Why the library refused. Each refusal has a number, 1 to 20 or 24, and is given exactly when its line says. More may be added: a `match`
+/// Why the library refused. Each refusal has a number, 1 to 20, and is given exactly when its line says. More may be added: a `match`
 /// needs an arm for the rest.
 ///
 /// ```
@@ -65,8 +65,6 @@ pub enum Error {
     NoRoom,
     /// 20: a unit would exceed the store.
     StoreFull,
-    /// 24: a machine is given a packet that is marked as damaged: its transport_error_indicator is set.
-    Damaged,
     /// A number that the library gave and this crate does not know, of a refusal or of a kind: the archives are newer than the crate.
     Unknown(u32),
 }
@@ -106,12 +104,11 @@ impl Error {
             18 => Error::TooLong,
             19 => Error::NoRoom,
             20 => Error::StoreFull,
-            24 => Error::Damaged,
             _ => Error::Unknown(number.into()),
         }
     }
 
-    /// The number of the refusal, 1 to 20 or 24; 0 for [`Error::Unknown`].
+    /// The number of the refusal, 1 to 20; 0 for [`Error::Unknown`].
     #[must_use]
     pub fn number(&self) -> u32 {
         match self {
@@ -135,7 +132,6 @@ impl Error {
             Error::TooLong => 18,
             Error::NoRoom => 19,
             Error::StoreFull => 20,
-            Error::Damaged => 24,
             Error::Unknown(_) => 0,
         }
     }
@@ -162,7 +158,6 @@ impl Error {
             Error::TooLong => "the unit is too long",
             Error::NoRoom => "no room for the packets",
             Error::StoreFull => "the store is full",
-            Error::Damaged => "the packet is marked as damaged",
             Error::Unknown(_) => "unknown number",
         }
     }
@@ -210,7 +205,7 @@ mod tests {
     #[test]
     fn words_and_numbers_agree() {
         assert_eq!(Error::from_word(0), None);
-        for number in (1..=20).chain([24]) {
+        for number in 1..=20 {
             assert_eq!(Error::from_word(number).unwrap().number(), number);
         }
         assert_eq!(Error::from_word(12 + 256 * 39), Some(Error::MarkerBitNotSet { bit_number: 39 }));
@@ -221,7 +216,7 @@ mod tests {
 
     #[test]
     fn other_numbers_are_unknown() {
-        for number in (21..=23).chain(25..=255) {
+        for number in 21..=255 {
             let error = Error::from_word(number + 256 * 7).unwrap();
             assert_eq!((error, error.number()), (Error::Unknown(number), 0));
         }

@@ -122,7 +122,7 @@ pub mod packet;
 pub mod pes;
 mod writer;
 
-pub use demux::{Demux, Found, FoundUnit, Mark, Scrambled};
+pub use demux::{Demux, Found, FoundUnit, Mark, Marked};
 pub use error::Error;
 pub use gather::Gathering;
 pub use machine::{log_bytes, Event, EventKind, Events, Machine, Mode, Phase, Ran, Repeat};

@@ -267,24 +267,9 @@ impl Machine {
     ///
     /// # Errors
     ///
-    /// In this order: [`Error::WrongLength`], [`Error::NoSync`], [`Error::Damaged`] for a packet that is marked as damaged,
-    /// [`Error::OutOfRange`] for a place that is not a multiple of 8 within the log, [`Error::IndexFull`], [`Error::LogFull`] if there is not
-    /// room for all events of the packet. A refused packet changes neither the machine nor the log: the next one is judged as if it had not
-    /// come.
-    ///
-    /// ```
-    /// use clomaverift::{Error, Machine, Packet, Unit};
-    ///
-    /// let mut packets = Unit::new(0x100, 0xE0).packets(&[1; 500])?; // three packets
-    /// packets[188 + 1] |= 0x80; // the second is marked as damaged
-    /// let mut machine = Machine::new();
-    /// let mut log = [0; 64];
-    /// let answers: Vec<_> = packets.chunks(Packet::SIZE).map(|packet| machine.step(packet, &mut log)).collect();
-    /// assert_eq!(answers, [Ok(()), Err(Error::Damaged), Ok(())]);
-    /// assert_eq!(machine.taken(), 2);
-    /// assert_eq!(machine.events(&log).count(), 3); // StartStream, BeginPacket, and ContinuityError for the third
-    /// # Ok::<(), Error>(())
-    /// ```
+    /// In this order: [`Error::WrongLength`], [`Error::NoSync`], [`Error::OutOfRange`] for a place that is not a multiple of 8 within the
+    /// log, [`Error::IndexFull`], [`Error::LogFull`] if there is not room for all events of the packet. A refused packet changes neither
+    /// the machine nor the log.
     #[inline]
     pub fn step(&mut self, packet: &[u8], log: &mut [u8]) -> Result<(), Error> {
         ffi::machine_step(&mut self.row, packet, log)
@@ -452,8 +437,8 @@ impl fmt::Debug for Machine {
 pub struct Ran {
     /// How many packets the run took.
     pub packets: u32,
-    /// Why the packet after those was refused; `None` if all were taken. One of [`Error::NoSync`], [`Error::Damaged`],
-    /// [`Error::IndexFull`] and [`Error::LogFull`]. After the first two the run goes on behind that packet.
+    /// Why the packet after those was refused; `None` if all were taken. One of [`Error::NoSync`], [`Error::IndexFull`] and
+    /// [`Error::LogFull`].
     pub ended: Option<Error>,
 }
 
@@ -697,82 +682,6 @@ mod tests {
         let mut machine = kept(Phase::Started, ContinuityCounter::new(15).ok(), u32::MAX - 1, 0);
         assert_eq!(machine.run(&bytes, &mut log), Ok(Ran { packets: 1, ended: Some(Error::IndexFull) }));
         assert_eq!(machine.taken(), u32::MAX);
-    }
-
-    /// A packet with the start flag and a head, without its last byte, without sync or marked as damaged, as the letters say.
-    fn at_fault(faults: &str) -> Vec<u8> {
-        let mut bytes = packet(true, 0).to_vec();
-        if faults.contains('l') {
-            bytes.pop();
-        }
-        if faults.contains('s') {
-            bytes[0] = 0x46;
-        }
-        if faults.contains('d') {
-            bytes[1] |= 0x80;
-        }
-        bytes
-    }
-
-    /// The faults in the order in which a step tests for them: of the packet its length, its sync byte, its mark; then the place, the
-    /// index, the room in the log.
-    #[test]
-    fn of_two_refusals_the_first_is_given() {
-        let order = [
-            ('l', Error::WrongLength),
-            ('s', Error::NoSync),
-            ('d', Error::Damaged),
-            ('p', Error::OutOfRange),
-            ('i', Error::IndexFull),
-            ('r', Error::LogFull),
-        ];
-        for mode in [Mode::Crate, Mode::Standard] {
-            for (first, (fault, error)) in order.into_iter().enumerate() {
-                for (later, _) in order.into_iter().skip(first) {
-                    let faults = [fault, later].into_iter().collect::<String>();
-                    let taken = if faults.contains('i') { u32::MAX } else { 0 };
-                    let place = if faults.contains('p') { 4 } else { 0 };
-                    let room = if faults.contains('r') { 4 } else { 64 };
-                    let mut machine =
-                        Machine::from_parts(mode, Phase::Begin, None, Repeat::Barred, false, taken, place);
-                    let (before, mut log) = (machine, vec![7; room]);
-                    assert_eq!(machine.step(&at_fault(&faults), &mut log), Err(error), "{mode:?} {faults}");
-                    assert_eq!((machine, log), (before, vec![7; room]));
-                }
-            }
-        }
-    }
-
-    #[test]
-    fn a_damaged_packet_is_refused_alone() {
-        let mut damaged = packet(false, 1);
-        damaged[1] |= 0x80;
-        for mut machine in [Machine::new(), Machine::standard()] {
-            let mut log = [7; 64];
-            let bytes = [packet(true, 0), damaged, packet(false, 1)].concat();
-            assert_eq!(machine.run(&bytes, &mut log), Ok(Ran { packets: 1, ended: Some(Error::Damaged) }));
-            let after = machine;
-            assert_eq!(machine.run(&bytes[188..], &mut log), Ok(Ran { packets: 0, ended: Some(Error::Damaged) }));
-            assert_eq!(machine, after);
-            assert_eq!(machine.run(&bytes[376..], &mut log), Ok(Ran { packets: 1, ended: None }));
-            let kinds: Vec<_> = told(&machine, &log).into_iter().map(|(_, kind, ..)| kind).collect();
-            assert_eq!(kinds, [EventKind::StartStream, EventKind::BeginPacket, EventKind::ContinuePacket]);
-        }
-    }
-
-    /// The packet just before is the last one taken.
-    #[test]
-    fn a_damaged_packet_between_two_copies() {
-        let mut damaged = packet(false, 6);
-        damaged[1] |= 0x80;
-        for (mode, events) in [(Mode::Crate, 1), (Mode::Standard, 0)] {
-            let mut machine = Machine::from_parts(mode, Phase::Begin, None, Repeat::Barred, true, 0, 0);
-            let mut log = [0; 24];
-            assert_eq!(machine.step(&packet(false, 5), &mut log), Ok(()));
-            assert_eq!(machine.step(&damaged, &mut log), Err(Error::Damaged));
-            assert_eq!(machine.step(&packet(false, 5), &mut log), Ok(()));
-            assert_eq!(machine.events(&log).count(), events, "{mode:?}");
-        }
     }
 
     /// Packets that need all of a log: so many have the start flag, and the others follow; the counters run from this one on.

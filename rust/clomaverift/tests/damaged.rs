@@ -1,7 +1,7 @@
 //! Damaged recordings of two PIDs: whatever the bytes, the driver finds in both modes the units that a plain reading of the events finds,
 //! and in the standard mode every stream is announced, first and once.
 
-use clomaverift::{Demux, Error, Event, EventKind, Found, Machine, Mode, Packet, PesHeader, Pid, Scrambled};
+use clomaverift::{Demux, Event, EventKind, Found, Machine, Marked, Mode, Packet, PesHeader, Pid};
 use std::collections::{BTreeMap, BTreeSet};
 
 const SAMPLE: &[u8] = include_bytes!(concat!(env!("CARGO_MANIFEST_DIR"), "/../../samples/sample.ts"));
@@ -51,30 +51,30 @@ fn damaged(rng: &mut Rng) -> Vec<u8> {
 }
 
 /// How a recording is read.
-type How = (Mode, Scrambled);
+type How = (Mode, Marked);
 
 const WAYS: [How; 4] = [
-    (Mode::Crate, Scrambled::Drop),
-    (Mode::Crate, Scrambled::Take),
-    (Mode::Standard, Scrambled::Drop),
-    (Mode::Standard, Scrambled::Take),
+    (Mode::Crate, Marked::Drop),
+    (Mode::Crate, Marked::Take),
+    (Mode::Standard, Marked::Drop),
+    (Mode::Standard, Marked::Take),
 ];
 
-fn found(recording: &[u8], (mode, scrambled): How) -> (Vec<Told>, Vec<Told>) {
+fn found(recording: &[u8], (mode, marked): How) -> (Vec<Told>, Vec<Told>) {
     let (mut ended, mut open) = (Vec::new(), Vec::new());
     let told = |found: Found<'_>, units: &mut Vec<Told>| {
         if let Found::Unit(unit) = found {
             units.push((unit.pid.into(), unit.index, unit.payload.to_vec()));
         }
     };
-    let mut demux = Demux::new().mode(mode).scrambled(scrambled);
+    let mut demux = Demux::new().mode(mode).marked(marked);
     demux.push(recording, |found| told(found, &mut ended));
     demux.finish(|found| told(found, &mut open));
     (ended, open)
 }
 
 /// The events of a machine for each PID: those of a packet at a time, with its PID, index and bytes.
-fn each_packet(recording: &[u8], (mode, scrambled): How, mut take: impl FnMut(Pid, u64, &[u8], &[Event])) {
+fn each_packet(recording: &[u8], (mode, marked): How, mut take: impl FnMut(Pid, u64, &[u8], &[Event])) {
     let fresh = || match mode {
         Mode::Standard => Machine::standard(),
         _ => Machine::new(),
@@ -86,17 +86,14 @@ fn each_packet(recording: &[u8], (mode, scrambled): How, mut take: impl FnMut(Pi
             Err(_) => continue,
         };
         let pid = packet.pid();
-        let is_scrambled = packet.transport_scrambling_control().is_scrambled();
-        if pid == Pid::STUFFING || is_scrambled && scrambled == Scrambled::Drop {
+        let is_marked = packet.transport_error_indicator() || packet.transport_scrambling_control().is_scrambled();
+        if pid == Pid::STUFFING || is_marked && marked == Marked::Drop {
             continue;
         }
         let machine = machines.entry(pid).or_insert_with(fresh);
         machine.rewind();
         let mut log = [0; 24];
-        match machine.step(bytes, &mut log) {
-            Err(Error::Damaged) => continue,
-            answer => answer.unwrap(),
-        }
+        machine.step(bytes, &mut log).unwrap();
         let events: Vec<_> = machine.events(&log).map(Result::unwrap).collect();
         take(pid, index, bytes, &events);
     }
@@ -130,9 +127,9 @@ fn plain(recording: &[u8], how: How) -> (Vec<Told>, Vec<Told>) {
 /// The streams that are announced, in their order: PID, packet, whether by a break.
 type Announced = Vec<(Pid, u64, bool)>;
 
-fn announced(recording: &[u8], (mode, scrambled): How) -> Announced {
+fn announced(recording: &[u8], (mode, marked): How) -> Announced {
     let mut announced = Vec::new();
-    Demux::new().mode(mode).scrambled(scrambled).push(recording, |found| {
+    Demux::new().mode(mode).marked(marked).push(recording, |found| {
         if let Found::StartStream { pid, index, by_break, .. } = found {
             announced.push((pid, index, by_break));
         }

@@ -3,7 +3,7 @@
 use crate::input::{Failure, Input};
 use crate::table::Form;
 use clap::{value_parser, Arg, ArgAction, ArgMatches, Command};
-use clomaverift::{Demux, Machine, Mode, Pid, Scrambled};
+use clomaverift::{Demux, Machine, Marked, Mode, Pid};
 use std::path::PathBuf;
 
 const STATUS: &str =
@@ -71,7 +71,7 @@ impl Options {
 
     /// Of the PID chosen, or of all but stuffing. Packets that are dropped are reported.
     pub fn demux(&self) -> Demux {
-        let demux = Demux::new().mode(self.mode).scrambled(Scrambled::Report);
+        let demux = Demux::new().mode(self.mode).marked(Marked::Report);
         match self.pid {
             Some(pid) => demux.only(&[pid]),
             None => demux,

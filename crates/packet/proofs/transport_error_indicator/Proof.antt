@@ -1,9 +1,8 @@
-use Rattle.packet.proofs.Laws.{packet-laws}
+use Rattle.packet.proofs.Laws.{packet_laws}
 use Rattle.packet.proofs.transport_error_indicator.Statement.{statement}
 use Rattle.packet.proofs.transport_error_indicator.Tie as tie
 
 pub transport_error_indicator_spec : {M : Type 1} → statement M
 transport_error_indicator_spec {M} =
-    let answers = tie.spec {M = M} (λ c. search packet-laws) (λ c. search packet-laws) (λ c. search packet-laws) (λ c. search packet-laws)
-    (λ c κs. search packet-laws) (λ c. search packet-laws) in
+    let answers = tie.spec {M = M} (λ c. search packet_laws) (λ c. search packet_laws) (λ c. search packet_laws) (λ c. search packet_laws) (λ c. search packet_laws) in
     tie.close answers

@@ -15,5 +15,5 @@ pub steps_spec : {M : Type 1} → statement M
 steps_spec =
     tie.close
     (tie.spec invariant_loop decreases_loop
-    (λ c. omega arith) (λ c. search rules) (λ c κs. search rules) (λ c. search rules)
+    (λ c κs. search rules) (λ c. omega arith) (λ c. search rules) (λ c κs. search rules) (λ c. search rules)
     (λ c κs. search rules) (λ c. omega arith) (λ c. omega arith) (λ c. omega arith) (λ c. search rules))

@@ -5,20 +5,17 @@ use crate::event::Events;
 use mpeg2ts_reader::demultiplex::{Demultiplex, DemuxContext, FilterChangeset, FilterRequest, PacketFilter};
 use mpeg2ts_reader::packet::Packet;
 
-/// Where each packet begins that `Demultiplex::push` hands on, and its events.
-pub fn demultiplexed(packets: &[u8]) -> Vec<(usize, Events)> {
-    let address = packets.as_ptr() as usize;
-    let mut context = Context { changes: FilterChangeset::default(), address, handed_on: vec![] };
+/// The events of each packet that `Demultiplex::push` hands on.
+pub fn handed_on(packets: &[Vec<u8>]) -> Vec<Events> {
+    let mut context = Context { changes: FilterChangeset::default(), events: vec![] };
     let mut demultiplex = Demultiplex::new(&mut context);
-    demultiplex.push(&mut context, packets);
-    context.handed_on
+    demultiplex.push(&mut context, &packets.concat());
+    context.events
 }
 
 struct Context {
     changes: FilterChangeset<Filter>,
-    /// Where the packets lie.
-    address: usize,
-    handed_on: Vec<(usize, Events)>,
+    events: Vec<Events>,
 }
 
 impl DemuxContext for Context {
@@ -33,15 +30,13 @@ impl DemuxContext for Context {
     }
 }
 
-/// What the packets of a PID are handed to: a machine.
+/// What a packet is handed to: the machine.
 struct Filter(Oracle);
 
 impl PacketFilter for Filter {
     type Ctx = Context;
 
     fn consume(&mut self, context: &mut Context, packet: &Packet<'_>) {
-        let bytes = packet.buffer();
-        let at = bytes.as_ptr() as usize - context.address;
-        context.handed_on.push((at, self.0.consume(bytes)));
+        context.events.push(self.0.consume(packet.buffer()));
     }
 }
