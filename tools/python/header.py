@@ -88,7 +88,7 @@ def numbers():
 
 def kinds():
     """The kinds of events: of each its name and number."""
-    found = re.findall(r"\nabbrev pub (\w+) : ℕ\n\1 = (\d+)\n", (TOP / "crates/log/specs/Entry.antt").read_text())
+    found = re.findall(r"\nabbrev pub (\w+) : ℕ\n\1 = (\d+)\n", (TOP / "crates/event_log/specs/Entry.antt").read_text())
     return [(upper(name), int(number)) for name, number in found]
 
 

@@ -1,5 +1,7 @@
 // The adaptation field of a packet (`AdaptationField` of the original's packet.rs), read off the field's bytes, without the length
 // byte before them. The extension's readers are in the module extension.
+#![tactic(auto)]
+
 ghost use Rattle.std.specs.Prelude.{◌≡◌, ◌+◌, ◌≤◌, ◌<◌, length};
 ghost use Rattle.bits.specs.Answer.{part_of};
 ghost use Rattle.adaptation.specs.Adaptation.{given_flag, given_clock, given_byte, given_part, read_flag, read_pcr, read_opcr};

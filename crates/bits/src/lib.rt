@@ -1,5 +1,7 @@
 // What every crate shares: the bit fields of the standard, the answers and their numbers in specs/, and the laws of both in
 // proofs/. The code is the step from a byte to a number, a part of a slice, and the copying of one.
+#![tactic(auto)]
+
 ghost use Rattle.std.specs.Prelude.{◌≡◌, ◌<◌};
 ghost use Rattle.bits.specs.Answer.{part_at, placed_at};
 

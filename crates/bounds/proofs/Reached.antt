@@ -21,7 +21,7 @@ use Rattle.packet.specs.Packet.{start_flag, counter_field, adaptation_flag, payl
 use Rattle.packet.proofs.Laws.{counter-is, content_plain}
 use Rattle.packet.proofs.Theorems.{control-payload, control-adaptation}
 use Rattle.pes.specs.Head.{not_head}
-use Rattle.log.specs.Entry.{entries_bytes}
+use Rattle.event_log.specs.Entry.{entries_bytes}
 use Rattle.machine.specs.declared.Mode.{Mode}
 use Rattle.machine.specs.declared.Mode.TheVariants.{Crate, Standard}
 use Rattle.machine.specs.declared.Phase.{Phase}

@@ -13,7 +13,7 @@ use Rattle.bits.specs.Numbers.{done}
 use Rattle.bits.proofs.Bools.{pick_same}
 use Rattle.bits.proofs.Checks.{first_of-every}
 use Rattle.packet.specs.Packet.{start_flag}
-use Rattle.log.specs.Entry.{entries_bytes}
+use Rattle.event_log.specs.Entry.{entries_bytes}
 use Rattle.machine.specs.declared.Mode.{Mode}
 use Rattle.machine.specs.declared.Mode.TheVariants.{Crate, Standard}
 use Rattle.machine.specs.declared.Phase.{Phase}

@@ -8,8 +8,8 @@ use native.Mathlib.Omega.{arith}
 use lib.ListN.{length, get_or, take, drop}
 use Rattle.bits.specs.Answer.{answer, pick, All}
 use Rattle.bits.specs.Numbers.{done}
-use Rattle.log.specs.declared.Event.{Event}
-use Rattle.log.specs.Entry.{event_values, read_entry}
+use Rattle.event_log.specs.declared.Event.{Event}
+use Rattle.event_log.specs.Entry.{event_values, read_entry}
 use Rattle.machine.specs.Run.{packets_in, shifted}
 use Rattle.gather.specs.Belongs.{event_bytes}
 use Rattle.gather.specs.Gather.{wrong_event, added, next_gathering, not_gathered, gather_number, gather_of, store_of}

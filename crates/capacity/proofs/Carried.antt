@@ -10,8 +10,8 @@ use lib.Seq.{append_snoc, get_or_at}
 use Rattle.bits.specs.Answer.{All}
 use Rattle.control.proofs.Laws.{compared-next}
 use Rattle.packet.specs.Packet.{pid_field, counter_field, content_at, payload_there}
-use Rattle.log.specs.declared.Event.{Event}
-use Rattle.log.specs.Entry.{event, begin_packet, continue_packet}
+use Rattle.event_log.specs.declared.Event.{Event}
+use Rattle.event_log.specs.Entry.{event, begin_packet, continue_packet}
 use Rattle.machine.specs.declared.Mode.{Mode}
 use Rattle.machine.specs.declared.Phase.{Phase}
 use Rattle.machine.specs.declared.Phase.TheVariants.{Begin, Started, IgnoreRest}

@@ -9,7 +9,7 @@ use native.Mathlib.Omega.{arith}
 use native.Mathlib.Nat.{add-zero}
 use lib.ListN.{length, take}
 use Rattle.bits.specs.Answer.{All}
-use Rattle.log.specs.Entry.{begin_packet}
+use Rattle.event_log.specs.Entry.{begin_packet}
 use Rattle.machine.specs.declared.Machine.{Machine}
 use Rattle.machine.specs.Events.{State, run}
 use Rattle.machine.specs.Step.{state_of}

@@ -13,8 +13,8 @@ use Rattle.pes.specs.Head.{not_head, id_of}
 use Rattle.packet.specs.Packet.{start_flag, payload_flag, adaptation_flag, adaptation_there, content_at, payload_there}
 use Rattle.contents.specs.Contents.{not_contents, flagged, read_pts_dts, data_length, times_size, escr_at, es_rate_at, trick_at, copy_info_at, crc_at}
 use Rattle.contents.specs.Contents.{fields_end, payload_at}
-use Rattle.log.specs.declared.Event.{Event}
-use Rattle.log.specs.Entry.{event, begin_packet}
+use Rattle.event_log.specs.declared.Event.{Event}
+use Rattle.event_log.specs.Entry.{event, begin_packet}
 use Rattle.machine.specs.declared.Mode.{Mode}
 use Rattle.machine.specs.declared.Mode.TheVariants.{Crate, Standard}
 use Rattle.machine.specs.Events.{continuity_by, discontinuity, head_accepted, announces, announcement, begun, events_of, run}

@@ -17,8 +17,8 @@ use Rattle.pes.proofs.Laws.{headed-done}
 use Rattle.contents.specs.declared.ContentsRead.{ContentsRead}
 use Rattle.contents.specs.Contents.{times_size, escr_at, es_rate_at, trick_at, copy_info_at, crc_at, fields_end, payload_at, flagged, read_pts_dts}
 use Rattle.contents.proofs.Laws.{Accepted, accepted}
-use Rattle.log.specs.declared.Event.{Event}
-use Rattle.log.specs.Entry.{begin_packet, continue_packet}
+use Rattle.event_log.specs.declared.Event.{Event}
+use Rattle.event_log.specs.Entry.{begin_packet, continue_packet}
 use Rattle.machine.specs.declared.Phase.{Phase}
 use Rattle.machine.specs.declared.Phase.TheVariants.{Begin, Started, IgnoreRest}
 use Rattle.machine.specs.declared.Continuity.{Continuity}

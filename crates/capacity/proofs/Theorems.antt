@@ -16,8 +16,8 @@ use Rattle.bits.specs.Numbers.{done, bad_field, too_long, no_room}
 use Rattle.bits.specs.Pack.{flat}
 use Rattle.bits.proofs.Checks.{accepted-by}
 use Rattle.pes.specs.Stream.{parsed_id}
-use Rattle.log.specs.declared.Event.{Event}
-use Rattle.log.specs.Entry.{begin_packet}
+use Rattle.event_log.specs.declared.Event.{Event}
+use Rattle.event_log.specs.Entry.{begin_packet}
 use Rattle.machine.specs.declared.Mode.{Mode}
 use Rattle.machine.specs.declared.Machine.{Machine}
 use Rattle.machine.specs.Events.{State, run}

@@ -11,7 +11,7 @@ use lib.Dec.{eqb}
 use Rattle.bits.specs.Answer.{Answer, answer, All}
 use Rattle.bits.specs.Numbers.{done}
 use Rattle.packet.specs.Packet.{pid_field}
-use Rattle.log.specs.Entry.{begin_packet}
+use Rattle.event_log.specs.Entry.{begin_packet}
 use Rattle.machine.specs.Events.{State, head_accepted, run}
 use Rattle.writer.specs.declared.Route.{Route}
 use Rattle.writer.specs.declared.Unit.{Unit}

@@ -4,8 +4,8 @@ use Rattle.bits.specs.Answer.{All}
 use Rattle.bits.specs.Numbers.{done}
 use Rattle.packet.specs.Packet.{pid_field, counter_field}
 use Rattle.pes.specs.Head.{packet_length}
-use Rattle.log.specs.declared.Event.{Event}
-use Rattle.log.specs.Entry.{event, begin_packet, continue_packet}
+use Rattle.event_log.specs.declared.Event.{Event}
+use Rattle.event_log.specs.Entry.{event, begin_packet, continue_packet}
 use Rattle.machine.specs.declared.Continuity.TheVariants.{GoesOn}
 use Rattle.machine.specs.declared.Last.{Last}
 use Rattle.machine.specs.declared.Last.TheVariants.{Nothing, At}

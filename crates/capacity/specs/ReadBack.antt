@@ -3,8 +3,8 @@
 use Rattle.std.specs.Prelude.{◌≡◌, true, List, [], ◌∷◌, ℕ, zero, suc, ◌+◌, ◌-◌, ◌*◌, ◌/◌, ◌<◌, length, get_or, take, drop}
 use Rattle.bits.specs.Answer.{Answer, answer, All}
 use Rattle.bits.specs.Numbers.{done}
-use Rattle.log.specs.declared.Event.{Event}
-use Rattle.log.specs.Entry.{event, event_values, read_entry}
+use Rattle.event_log.specs.declared.Event.{Event}
+use Rattle.event_log.specs.Entry.{event, event_values, read_entry}
 use Rattle.machine.specs.declared.Machine.{Machine}
 use Rattle.machine.specs.Run.{packets_in, report_of, ran_log}
 use Rattle.gather.specs.Belongs.{event_bytes}

@@ -7,8 +7,8 @@ use Rattle.contents.specs.Contents.{pes_priority_bit, alignment_bit, copyright_b
 use Rattle.contents.specs.Contents.{read_contents, read_fixed, read_pts_dts, read_escr, read_es_rate, read_copy_info, read_crc}
 use Rattle.contents.specs.Trick.{read_raw_trick}
 use Rattle.pes_header.specs.Payload.{payload_bytes}
-use Rattle.log.specs.declared.Event.{Event}
-use Rattle.log.specs.Entry.{begin_packet, continue_packet}
+use Rattle.event_log.specs.declared.Event.{Event}
+use Rattle.event_log.specs.Entry.{begin_packet, continue_packet}
 use Rattle.machine.specs.Events.{State, run}
 use Rattle.machine.specs.Run.{IsPacket}
 use Rattle.units.specs.Units.{bytes_at, bytes_at_all}

@@ -1,5 +1,7 @@
 // What follows the head of a PES packet that carries parsed contents (`PesParsedContents` of the original's pes.rs), read off a
 // slice that begins after the head's six bytes. Every reader refuses contents that `from_bytes` refuses, and by the same number.
+#![tactic(auto)]
+
 ghost use Rattle.std.specs.Prelude.{◌≡◌, [], ◌∷◌, ◌++◌, ◌+◌, ◌≤◌, length, drop};
 ghost use Rattle.bits.specs.Answer.{answer, part_of};
 ghost use Rattle.bits.specs.Numbers.{done};

@@ -1,4 +1,6 @@
 // The small types of the original's packet.rs: the control bits of a packet's fourth byte, clock references, counters and PIDs.
+#![tactic(auto)]
+
 ghost use Rattle.std.specs.Prelude.{◌≡◌, true, ◌↔◌};
 ghost use Rattle.control.specs.Clock.{given_read, given_made, given_number, read_clock, make_clock, clock_number};
 ghost use Rattle.control.specs.Control.{has_adaptation_field, has_payload, is_scrambled, given_scheme, read_scheme, compare, follows};

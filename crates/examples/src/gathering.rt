@@ -2,7 +2,7 @@
 use crate::machines::{ENTRIES, LOG};
 use crate::{machines, packets, show};
 use gather::{Gathered, Gathering, Lies, Verdict};
-use log::{EntryRead, Event};
+use event_log::{EntryRead, Event};
 use machine::Machine;
 
 // ---- lines
@@ -55,7 +55,7 @@ fn take(g: Gathering, packet: &[u8], e: Event, store: &mut [u8]) -> Gathering {
 
 // The event at a place of the log, with its packet.
 fn entry(g: Gathering, stream: &[u8], log: &[u8; LOG], at: usize, store: &mut [u8]) -> Gathering {
-    match log::entry_at(log, at) {
+    match event_log::entry_at(log, at) {
         EntryRead::Done(e) => take(g, packets::packet(stream, e.index), e, store),
         EntryRead::OutOfRange => g,
     }

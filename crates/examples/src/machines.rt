@@ -1,7 +1,7 @@
 // The machine, step by step over a lent state and by one call: a line for each call, with its answer and the fields of the state after it, then each entry of the log.
 use crate::{own_state, packets, show};
 use bits::{copy_at, part, wide};
-use log::{EntryRead, Event};
+use event_log::{EntryRead, Event};
 use machine::{Last, Machine, Mode, Phase, Repeat, Verdict};
 
 // Room for one entry more than the example has.
@@ -59,7 +59,7 @@ pub fn event(e: Event) {
 
 // The entry at a place of the log, if there is one: bytes of 0 are none.
 fn entry(log: &[u8; LOG], at: usize) {
-    if let EntryRead::Done(e) = log::entry_at(log, at) {
+    if let EntryRead::Done(e) = event_log::entry_at(log, at) {
         show::comma();
         event(e);
     }

@@ -1,5 +1,7 @@
 // Runs the examples of the request that are not proved, the object `PesHeader` and the step over a lent state, and prints a line for each
 // answer. README.md says what the numbers of a line are, and the file stdout has what must come out.
+#![tactic(auto)]
+
 mod gathering;
 mod header_object;
 mod headers;

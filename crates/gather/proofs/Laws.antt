@@ -20,7 +20,7 @@ use Rattle.pes_header.specs.Payload.{given_payload, header_payload, payload_byte
 use Rattle.pes_header.specs.contracts.PayloadRead.{the_type as payload-type}
 use Rattle.pes_header.proofs.Laws.{payload-refusal}
 use Rattle.pes_header.proofs.Theorems.{payload-within}
-use Rattle.log.specs.declared.Event.{Event}
+use Rattle.event_log.specs.declared.Event.{Event}
 use Rattle.gather.specs.declared.Lies.{Lies}
 use Rattle.gather.specs.declared.Lies.TheVariants.{Packet, Store}
 use Rattle.gather.specs.declared.Gathering.{Gathering}

@@ -16,7 +16,7 @@ use Rattle.bits.proofs.Tests.{one_answer}
 use Rattle.packet.specs.Packet.{not_packet}
 use Rattle.pes_header.specs.Payload.{header_payload, payload_bytes}
 use Rattle.pes_header.proofs.Theorems.{payload-within}
-use Rattle.log.specs.declared.Event.{Event}
+use Rattle.event_log.specs.declared.Event.{Event}
 use Rattle.gather.specs.declared.Gathering.{Gathering}
 use Rattle.gather.specs.declared.Gathered.{Gathered}
 use Rattle.gather.specs.declared.HeldRead.{HeldRead}

@@ -3,7 +3,7 @@ use Rattle.std.specs.Prelude.{List, ℕ, eqb, get_or, take, drop}
 use Rattle.bits.specs.Answer.{pick}
 use Rattle.bits.specs.Numbers.{done}
 use Rattle.pes_header.specs.Payload.{header_payload, payload_bytes}
-use Rattle.log.specs.declared.Event.{Event}
+use Rattle.event_log.specs.declared.Event.{Event}
 
 -- the bytes that an event names in its packet
 unfoldable pub event_bytes : List ℕ → Event → List ℕ

@@ -3,8 +3,8 @@ use Rattle.std.specs.Prelude.{◌≡◌, Bool, true, false, ◌||◌, List, [], 
 use Rattle.bits.specs.Answer.{pick, Check, ◌gives◌, first_of, placed_at, part_at}
 use Rattle.bits.specs.Numbers.{done, wrong_length, no_sync, out_of_range, store_full}
 use Rattle.packet.specs.Packet.{not_packet}
-use Rattle.log.specs.declared.Event.{Event}
-use Rattle.log.specs.Entry.{start_stream, begin_packet, continue_packet, end_packet, continuity_error}
+use Rattle.event_log.specs.declared.Event.{Event}
+use Rattle.event_log.specs.Entry.{start_stream, begin_packet, continue_packet, end_packet, continuity_error}
 use Rattle.gather.specs.declared.Lies.{Lies}
 use Rattle.gather.specs.declared.Lies.TheVariants.{Packet, Store}
 use Rattle.gather.specs.declared.Gathering.{Gathering}

@@ -4,7 +4,7 @@ use Rattle.std.specs.Prelude.{Bool, true, false, List, [], ◌∷◌, ◌++◌, 
 use Rattle.bits.specs.Answer.{Answer, answer, pick, truth, Check, ◌gives◌, first_of}
 use Rattle.bits.specs.Numbers.{done, out_of_range, store_full}
 use Rattle.packet.specs.Packet.{not_packet}
-use Rattle.log.specs.declared.Event.{Event}
+use Rattle.event_log.specs.declared.Event.{Event}
 use Rattle.gather.specs.declared.Lies.{Lies}
 use Rattle.gather.specs.declared.Lies.TheVariants.{Packet, Store}
 use Rattle.gather.specs.declared.Gathering.{Gathering}

@@ -1,14 +1,16 @@
 // The gathering store: the bytes of a unit, event by event.
+#![tactic(auto)]
+
 ghost use Rattle.std.specs.Prelude.{◌≡◌, false, ◌+◌, ◌≤◌, eqb, length};
 ghost use Rattle.bits.specs.Answer.{pick, part_at, placed_at};
 ghost use Rattle.bits.specs.Numbers.{done, store_full};
-ghost use Rattle.log.specs.Entry.{continue_packet};
+ghost use Rattle.event_log.specs.Entry.{continue_packet};
 ghost use Rattle.gather.specs.Belongs.{own_place, own_bytes};
 ghost use Rattle.gather.specs.Gather.{gathering, emptied, wrong_event, wrong_gathering, CallStands, rested, appended};
 ghost use Rattle.gather.specs.Gather.{gather_outcome, given_gathered, gather_of, store_of, read_of, given_held, held_bytes};
 
 use bits::part;
-use log::{BEGIN_PACKET, CONTINUE_PACKET, CONTINUITY_ERROR, Event, START_STREAM};
+use event_log::{BEGIN_PACKET, CONTINUE_PACKET, CONTINUITY_ERROR, Event, START_STREAM};
 use packet::{SIZE, SYNC_BYTE};
 use pes_header::PayloadRead;
 

@@ -17,7 +17,7 @@ use Rattle.machine.specs.Step.{fresh, not_taken, Outcome, step_of, log_of}
 use Rattle.machine.specs.Run.{not_run, Reported, report_of, ran_log}
 use Rattle.machine.proofs.Rows.{stray-number}
 use Rattle.machine.specs.Row.{machine_of, row_of, step_by, row_step, row_step_of, run_by, row_run, row_run_of}
-use Rattle.log.specs.declared.Event.{Event}
+use Rattle.event_log.specs.declared.Event.{Event}
 use Rattle.host.specs.Reports.{Reports}
 use Rattle.host.proofs.Laws.{reports, reports_as, reports_of, host_laws}
 use Rattle.machine.proofs.Laws.{run_length, run-state}

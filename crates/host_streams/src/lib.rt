@@ -1,5 +1,7 @@
 // The library's second part for a host of another language: the entries that keep a stream's state between calls. Words and out
 // numbers are those of the crate host.
+#![tactic(auto)]
+
 ghost use Rattle.std.specs.Prelude.{◌≡◌, true, []};
 ghost use Rattle.bits.specs.Answer.{first_of};
 ghost use Rattle.machine.specs.Step.{not_taken, verdict_number};

@@ -1,6 +1,6 @@
 // The gathering store. The host keeps a state as a row of numbers and lends it (gather::row).
 ghost use Rattle.std.specs.Prelude.{◌≡◌, [], ◌∷◌};
-ghost use Rattle.log.specs.Entry.{event};
+ghost use Rattle.event_log.specs.Entry.{event};
 ghost use Rattle.gather.specs.Gather.{emptied, store_number};
 ghost use Rattle.gather.specs.Row.{gathering_row, moves, row_gather, row_gather_of, row_held};
 ghost use Rattle.host.specs.Reports.{Reports};
@@ -9,7 +9,7 @@ use crate::strayed;
 use gather::row::RowRead;
 use gather::{Gathering, HeldRead, Lies, Verdict, row};
 use host::numbers::{DONE, NO_SYNC, OUT_OF_RANGE, STORE_FULL, WRONG_LENGTH};
-use log::Event;
+use event_log::Event;
 
 fn number_of(v: Verdict) -> u32
     ensures { result ≡ store_number v }

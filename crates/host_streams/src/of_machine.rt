@@ -1,6 +1,6 @@
 // The event machine and its log. The host keeps a state as a row of numbers and lends it (machine::row).
 ghost use Rattle.std.specs.Prelude.{◌≡◌, [], ◌∷◌};
-ghost use Rattle.log.specs.Entry.{read_entry};
+ghost use Rattle.event_log.specs.Entry.{read_entry};
 ghost use Rattle.machine.specs.declared.Mode.{Mode};
 ghost use Rattle.machine.specs.Step.{fresh};
 ghost use Rattle.host.specs.Reports.{Reports};
@@ -8,7 +8,7 @@ ghost use Rattle.machine.specs.Row.{row_of, row_step, row_step_of, row_run, row_
 
 use crate::{step_number, strayed};
 use host::numbers::{DONE, OUT_OF_RANGE, WRONG_LENGTH};
-use log::EntryRead;
+use event_log::EntryRead;
 use machine::row::RowRead;
 use machine::{Machine, row};
 
@@ -84,7 +84,7 @@ pub extern "C" fn cmv_machine_run(
     }
 }
 
-// log::entry_at
+// event_log::entry_at
 #[unsafe(no_mangle)]
 pub extern "C" fn cmv_log_entry_at(
     log: &[u8],
@@ -98,7 +98,7 @@ pub extern "C" fn cmv_log_entry_at(
         (kind.old ∷ index.old ∷ place.old ∷ length.old ∷ [])
         (kind.new ∷ index.new ∷ place.new ∷ length.new ∷ []) }
 {
-    match log::entry_at(log, at) {
+    match event_log::entry_at(log, at) {
         EntryRead::Done(e) => {
             *kind = e.kind as u64;
             *index = e.index as u64;

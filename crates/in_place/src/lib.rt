@@ -1,12 +1,14 @@
 // A stream's state where its owner keeps it: each function here is thin over the one by value, and leaves in the lent state what that one
 // returns.
+#![tactic(auto)]
+
 ghost use Rattle.std.specs.Prelude.{◌≡◌};
 ghost use Rattle.machine.specs.Step.{verdict_number, step_of, log_of};
 ghost use Rattle.machine.specs.Run.{reported, report_of, ran_log};
 ghost use Rattle.gather.specs.Gather.{store_number, gather_of, store_of};
 
 use gather::Gathering;
-use log::Event;
+use event_log::Event;
 use machine::{Machine, Report, Verdict};
 
 // One packet: the lent machine is advanced. A refusal leaves it.

@@ -1,6 +1,6 @@
 // The lines of the list.
 use bits::wide;
-use log::{EntryRead, Event};
+use event_log::{EntryRead, Event};
 use page::{PAGE, put, text};
 
 // The log of one packet: it has at most three events, of eight bytes each.
@@ -41,7 +41,7 @@ fn entry(page: &mut [u8; PAGE], used: usize, log: &[u8; LOG], at: usize, end: us
     if end <= at {
         return used;
     }
-    match log::entry_at(log, at) {
+    match event_log::entry_at(log, at) {
         EntryRead::Done(e) => event(page, used, e),
         // the machine wrote none such
         EntryRead::OutOfRange => used,

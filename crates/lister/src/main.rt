@@ -1,4 +1,6 @@
 // Lists the events of the packets on standard input. README.md says what the lines look like.
+#![tactic(auto)]
+
 mod lines;
 mod listing;
 

@@ -8,8 +8,8 @@ use Prim.Native.Nat.{ℕ, suc}
 use Rattle.bits.specs.Answer.{pick}
 use Rattle.bits.proofs.Bools.{false_true}
 use Rattle.packet.specs.Packet.{start_flag}
-use Rattle.log.specs.declared.Event.{Event}
-use Rattle.log.specs.Entry.{start_stream}
+use Rattle.event_log.specs.declared.Event.{Event}
+use Rattle.event_log.specs.Entry.{start_stream}
 use Rattle.machine.specs.declared.Mode.{Mode}
 use Rattle.machine.specs.declared.Mode.TheVariants.{Standard}
 use Rattle.machine.specs.declared.Phase.{Phase}

@@ -12,8 +12,8 @@ use Rattle.bits.proofs.Bools.{false_true}
 use Rattle.control.specs.Control.{follows, compare}
 use Rattle.control.proofs.Laws.{apart}
 use Rattle.packet.specs.Packet.{start_flag, counter_field, payload_flag}
-use Rattle.log.specs.declared.Event.{Event}
-use Rattle.log.specs.Entry.{start_stream}
+use Rattle.event_log.specs.declared.Event.{Event}
+use Rattle.event_log.specs.Entry.{start_stream}
 use Rattle.machine.specs.declared.Mode.{Mode}
 use Rattle.machine.specs.declared.Mode.TheVariants.{Crate, Standard}
 use Rattle.machine.specs.declared.Phase.{Phase}

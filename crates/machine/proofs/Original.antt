@@ -6,7 +6,7 @@ use mathlib.Core.List.{List, [], ◌∷◌, ◌++◌}
 use Prim.Native.Nat.{ℕ, suc}
 use Rattle.bits.specs.Answer.{pick}
 use Rattle.packet.specs.Packet.{start_flag, payload_flag}
-use Rattle.log.specs.declared.Event.{Event}
+use Rattle.event_log.specs.declared.Event.{Event}
 use Rattle.machine.specs.declared.Mode.TheVariants.{Crate}
 use Rattle.machine.specs.declared.Phase.{Phase}
 use Rattle.machine.specs.declared.Phase.TheVariants.{Begin, Started, IgnoreRest}

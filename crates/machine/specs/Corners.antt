@@ -1,6 +1,6 @@
 -- Corners of continuity and of StartStream, as rows: from a state, these packets, the continuity of each and the kinds of its events.
 use Rattle.std.specs.Prelude.{◌≡◌, true, false, List, [], ◌∷◌, map, ℕ, suc, ◌+◌, replicate}
-use Rattle.log.specs.declared.Event.{Event}
+use Rattle.event_log.specs.declared.Event.{Event}
 use Rattle.machine.specs.declared.Mode.TheVariants.{Crate, Standard}
 use Rattle.machine.specs.declared.Phase.TheVariants.{Begin, Started, IgnoreRest}
 use Rattle.machine.specs.declared.Last.TheVariants.{Nothing, At}

@@ -4,8 +4,8 @@ use Rattle.std.specs.Prelude.{◌≡◌, Bool, true, false, List, [], ◌∷◌,
 use Rattle.bits.specs.Answer.{pick}
 use Rattle.control.specs.Control.{follows}
 use Rattle.packet.specs.Packet.{start_flag, counter_field, payload_flag}
-use Rattle.log.specs.declared.Event.{Event}
-use Rattle.log.specs.Entry.{start_stream}
+use Rattle.event_log.specs.declared.Event.{Event}
+use Rattle.event_log.specs.Entry.{start_stream}
 use Rattle.machine.specs.declared.Mode.{Mode}
 use Rattle.machine.specs.declared.Mode.TheVariants.{Standard}
 use Rattle.machine.specs.declared.Phase.TheVariants.{Begin}

@@ -3,8 +3,8 @@ use Rattle.std.specs.Prelude.{Bool, true, List, [], ◌∷◌, ◌++◌, ℕ, su
 use Rattle.bits.specs.Answer.{pick}
 use Rattle.control.specs.Control.{follows}
 use Rattle.packet.specs.Packet.{start_flag, counter_field, payload_flag}
-use Rattle.log.specs.declared.Event.{Event}
-use Rattle.log.specs.Entry.{start_stream, end_packet, continuity_error}
+use Rattle.event_log.specs.declared.Event.{Event}
+use Rattle.event_log.specs.Entry.{start_stream, end_packet, continuity_error}
 use Rattle.machine.specs.declared.Phase.{Phase}
 use Rattle.machine.specs.declared.Phase.TheVariants.{Begin, Started, IgnoreRest}
 use Rattle.machine.specs.declared.Last.{Last}

@@ -1,4 +1,6 @@
 // The transport packet (`Packet` of the original's packet.rs), read off a slice: each reader refuses a slice that is no packet.
+#![tactic(auto)]
+
 ghost use Rattle.std.specs.Prelude.{◌≡◌, eqb};
 ghost use Rattle.bits.specs.Answer.{part_of};
 ghost use Rattle.packet.specs.Packet.{given_tried, given_flag, given_pid, given_scrambling, given_control, given_counter, given_part};

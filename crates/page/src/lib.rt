@@ -1,5 +1,7 @@
 // A program's output is gathered on a page, which is written when it is full: one system call for many lines. A function that adds to the
 // page gives back how much of it is then used. A write that fails is not reported: bytes are missing then.
+#![tactic(auto)]
+
 ghost use Rattle.std.specs.Prelude.{◌≡◌};
 ghost use Rattle.page.specs.Page.{page_of, with_byte, with_bytes};
 

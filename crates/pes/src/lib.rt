@@ -1,4 +1,6 @@
 // The head of a PES packet (`PesHeader` and `StreamId` of the original's pes.rs), read off a slice that begins with it.
+#![tactic(auto)]
+
 ghost use Rattle.std.specs.Prelude.{◌≡◌};
 ghost use Rattle.bits.specs.Answer.{part_of};
 ghost use Rattle.pes.specs.Stream.{given_id, kind_of, read_id, parsed_id};

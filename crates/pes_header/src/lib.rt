@@ -1,4 +1,6 @@
 // A header read is an object (`PesHeader` of the original's pes.rs): it keeps the caller's bytes, and hands out a part of them as payload.
+#![tactic(auto)]
+
 ghost use Rattle.std.specs.Prelude.{◌≡◌};
 ghost use Rattle.bits.specs.Answer.{part_of};
 ghost use Rattle.pes.specs.Head.{given_head, given_stream_id, given_length, given_contents};

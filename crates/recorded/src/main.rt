@@ -1,4 +1,6 @@
 // Answers the queries of standard input by the library's host entries. README.md says what a query and an answer look like.
+#![tactic(auto)]
+
 mod answers;
 mod clocks;
 mod fields;

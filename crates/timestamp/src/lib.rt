@@ -1,4 +1,6 @@
 // The 33-bit timestamps of the standard, PTS and DTS (`Timestamp` of the original's pes.rs).
+#![tactic(auto)]
+
 ghost use Rattle.std.specs.Prelude.{◌≡◌};
 ghost use Rattle.timestamp.specs.Stamp.{given, given_made, make_stamp, read_stamp, read_prefixed, pts_prefix, dts_prefix, likely_wrapped};
 

@@ -11,8 +11,8 @@ use lib.ListN.{length, drop}
 use Rattle.bits.specs.Answer.{pick, All}
 use Rattle.packet.specs.Packet.{start_flag, content_at, payload_there}
 use Rattle.packet.proofs.Laws.{payload_below}
-use Rattle.log.specs.declared.Event.{Event}
-use Rattle.log.specs.Entry.{event}
+use Rattle.event_log.specs.declared.Event.{Event}
+use Rattle.event_log.specs.Entry.{event}
 use Rattle.machine.specs.declared.Phase.{Phase}
 use Rattle.machine.specs.declared.Phase.TheVariants.{Begin, Started, IgnoreRest}
 use Rattle.machine.specs.declared.Continuity.{Continuity}

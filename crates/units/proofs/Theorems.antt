@@ -10,7 +10,7 @@ use lib.ListN.{length, get_or, take, length-append}
 use borrow.Author.Tests.{le-ltb, leb-true, leb-false, ne_eqb, eqb-true, eqb-false}
 use Rattle.bits.specs.Answer.{pick, part_at, placed_at, All}
 use Rattle.bits.proofs.Parts.{part_in, part_length, part-of-part, length-placed, placed-take, placed-none}
-use Rattle.log.specs.declared.Event.{Event}
+use Rattle.event_log.specs.declared.Event.{Event}
 use Rattle.machine.specs.Run.{IsPacket}
 use Rattle.gather.specs.declared.Lies.TheVariants.{Packet, Store}
 use Rattle.gather.specs.declared.Gathering.{Gathering}

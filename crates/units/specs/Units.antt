@@ -1,8 +1,8 @@
 -- The calls over the events of a list of packets, and the bytes of a unit.
 use Rattle.std.specs.Prelude.{◌≡◌, true, false, List, [], ◌∷◌, ◌++◌, ◌⊎◌, ℕ, ◌+◌, ◌≤◌, ◌<◌, length, get_or, take}
 use Rattle.bits.specs.Numbers.{done}
-use Rattle.log.specs.declared.Event.{Event}
-use Rattle.log.specs.Entry.{begin_packet, end_packet}
+use Rattle.event_log.specs.declared.Event.{Event}
+use Rattle.event_log.specs.Entry.{begin_packet, end_packet}
 use Rattle.gather.specs.declared.Gathering.{Gathering}
 use Rattle.gather.specs.Belongs.{event_bytes, own_bytes}
 use Rattle.gather.specs.Gather.{wrong_gathering, GatherOutcome, gather_of, store_of, held_bytes}

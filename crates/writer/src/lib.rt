@@ -1,4 +1,6 @@
 // The writer: a unit with its payload as transport packets.
+#![tactic(auto)]
+
 ghost use Rattle.std.specs.Prelude.{◌≡◌, ◌∷◌, [], ◌++◌, true, ◌+◌, ◌-◌, ◌*◌, ◌/◌, ◌%◌, ◌^◌, ◌≤◌, ◌<◌, min, leb, ltb, length, drop, replicate};
 ghost use Rattle.bits.specs.Answer.{pick, truth, placed_at};
 ghost use Rattle.bits.specs.Pack.{joined, bytes_of, flat};

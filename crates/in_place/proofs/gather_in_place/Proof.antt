@@ -47,9 +47,9 @@ use denote.Triple.Walked.{Goes-gave_slice, Walks, ends_at, walked, walk_Meets}
 use denote.Exit.{yes}
 use denote.Signature.{plain}
 use denote.Enum.Laws as EL
-use Rattle.log.specs.declared.Event.{Event}
-use Rattle.log.specs.contracts.Event as Ev
-use Rattle.log.proofs.Event.TheLaws as Ev'
+use Rattle.event_log.specs.declared.Event.{Event}
+use Rattle.event_log.specs.contracts.Event as Ev
+use Rattle.event_log.proofs.Event.TheLaws as Ev'
 use Rattle.gather.specs.Gather.{GatherOutcome, given_gathered, gather_of, store_of}
 use Rattle.gather.specs.declared.Gathering.{Gathering}
 use Rattle.gather.specs.declared.Gathered.{Gathered}

@@ -1,4 +1,4 @@
-use Rattle.log.specs.Entry.{given_entry}
+use Rattle.event_log.specs.Entry.{given_entry}
 use Rattle.host.proofs.Laws.{reports_of, host_laws}
 use Rattle.host_streams.proofs.of_machine.cmv_log_entry_at.Statement.{statement}
 use Rattle.host_streams.proofs.of_machine.cmv_log_entry_at.Tie as tie
