@@ -14,13 +14,13 @@ const BIT_30: u32 = 1 << 30;
 
 const BIT_32: u64 = 1 << 32;
 
-#[derive(Drop)]
+#[derive(Clone, Copy)]
 pub struct Timestamp {
     val: u64,
 }
 
 // What reading a timestamp gives.
-#[derive(Drop)]
+#[derive(Clone, Copy)]
 pub enum TimestampRead {
     Done(Timestamp),
     WrongLength,
@@ -29,7 +29,7 @@ pub enum TimestampRead {
 }
 
 // What making a timestamp from a number gives.
-#[derive(Drop)]
+#[derive(Clone, Copy)]
 pub enum TimestampMade {
     Done(Timestamp),
     OutOfRange,
