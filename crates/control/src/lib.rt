@@ -9,7 +9,7 @@ ghost use Rattle.control.specs.Control.{given_counter, make_counter, counter_of,
 use bits::wide;
 
 // The adaptation_field_control bits; the other bits of the byte are kept and not looked at.
-#[derive(Drop)]
+#[derive(Clone, Copy)]
 pub struct AdaptationControl(u8);
 
 impl AdaptationControl {
@@ -34,14 +34,14 @@ impl AdaptationControl {
 }
 
 // The scrambling scheme in use, if any.
-#[derive(Drop)]
+#[derive(Clone, Copy)]
 pub enum Scheme {
     NotScrambled,
     Scrambled(u8),
 }
 
 // The transport_scrambling_control bits; the other bits of the byte are kept and not looked at.
-#[derive(Drop)]
+#[derive(Clone, Copy)]
 pub struct TransportScramblingControl(u8);
 
 impl TransportScramblingControl {
@@ -76,25 +76,25 @@ const BIT_17: u64 = 1 << 17;
 const BIT_25: u64 = 1 << 25;
 
 // A 27 MHz clock reading: PCR, OPCR and ESCR.
-#[derive(Drop)]
+#[derive(Clone, Copy)]
 pub struct ClockRef {
     base: u64,
     extension: u16,
 }
 
-#[derive(Drop)]
+#[derive(Clone, Copy)]
 pub enum ClockRead {
     Done(ClockRef),
     WrongLength,
 }
 
-#[derive(Drop)]
+#[derive(Clone, Copy)]
 pub enum ClockMade {
     Done(ClockRef),
     OutOfRange,
 }
 
-#[derive(Drop)]
+#[derive(Clone, Copy)]
 pub enum ClockNumber {
     Done(u64),
     OutOfRange,
@@ -166,19 +166,19 @@ impl ClockRef {
 }
 
 // A counter that shows where packets were lost: 0 to 15, one more with each packet that has a payload.
-#[derive(Drop)]
+#[derive(Clone, Copy)]
 pub struct ContinuityCounter {
     val: u8,
 }
 
-#[derive(Drop)]
+#[derive(Clone, Copy)]
 pub enum CounterMade {
     Done(ContinuityCounter),
     OutOfRange,
 }
 
 // A counter beside the last one: one more modulo 16, the same, or neither.
-#[derive(Drop)]
+#[derive(Clone, Copy)]
 pub enum Compared {
     Next,
     Same,
@@ -233,10 +233,10 @@ impl ContinuityCounter {
 }
 
 // A packet identifier: 13 bits.
-#[derive(Drop)]
+#[derive(Clone, Copy)]
 pub struct Pid(u16);
 
-#[derive(Drop)]
+#[derive(Clone, Copy)]
 pub enum PidMade {
     Done(Pid),
     OutOfRange,
