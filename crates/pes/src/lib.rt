@@ -10,7 +10,7 @@ ghost use Rattle.pes.specs.Head.{read_contents_part, contents_part};
 use bits::wide;
 
 // What a stream id stands for.
-#[derive(Drop)]
+#[derive(Clone, Copy)]
 pub enum StreamId {
     ProgramStreamMap,
     PrivateStream1,
@@ -86,14 +86,14 @@ impl StreamId {
     }
 }
 
-#[derive(Drop)]
+#[derive(Clone, Copy)]
 pub enum HeadRead {
     Done,
     ShortHeader,
     BadStartCode,
 }
 
-#[derive(Drop)]
+#[derive(Clone, Copy)]
 pub enum StreamIdRead {
     Done(StreamId),
     ShortHeader,
@@ -101,7 +101,7 @@ pub enum StreamIdRead {
 }
 
 // The length of the packet after its head; an unbounded one goes on to the next start.
-#[derive(Drop)]
+#[derive(Clone, Copy)]
 pub enum LengthRead {
     Unbounded,
     Bounded(u16),
@@ -110,7 +110,7 @@ pub enum LengthRead {
 }
 
 // What follows the head, and where it lies.
-#[derive(Drop)]
+#[derive(Clone, Copy)]
 pub enum ContentsRead {
     Payload { place: usize, length: usize },
     Parsed { place: usize, length: usize },
