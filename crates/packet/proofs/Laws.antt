@@ -10,9 +10,6 @@ use lib.ListN.{length, get_or}
 use lib.Dec.{eqb, leb, ltb}
 use borrow.Author.Tests.{lt-ltb, le-ltb, le-leb, lt-leb, eq-eqb, ne_eqb, ltb-true, leb-true, eqb-true, not-true, not-false}
 use borrow.Author.Rules.{rules}
-use mathlib.Core.Logic.{◌⊎◌, ⊎_elim}
-use types.Run.{OneOf}
-use denote.Enum.Declared.{tag_of}
 use Rattle.bits.specs.Answer.{Answer, answer, pick, truth, Check, unless, first_of, other, Within, part_at, part_of}
 use Rattle.bits.specs.Field.{bit}
 use Rattle.bits.proofs.Bools.{false_true, both}
@@ -21,7 +18,6 @@ use Rattle.bits.proofs.Fields.{bit_of, in_byte, field-split, field_below, byte-f
 use Rattle.bits.proofs.Parts.{part-refused, part-done}
 use Rattle.control.specs.Control.{has_adaptation_field, has_payload, counter_of, pid_of}
 use Rattle.packet.specs.declared.PartRead.{PartRead}
-use Rattle.packet.specs.contracts.PartRead.{the_type}
 use Rattle.packet.specs.declared.Tried.{Tried}
 use Rattle.packet.specs.Packet.{given_tried, given_part, not_packet, pid_field, counter_field, adaptation_flag, payload_flag, adaptation_length}
 use Rattle.packet.specs.Packet.{start_bit, start_flag, start_of, after_field, adaptation_there, content_at, payload_there}
@@ -254,15 +250,15 @@ payload-within : (xs : List ℕ) → Within (read_payload xs) xs
 payload-within xs = part-within xs (content_at xs) (188 - content_at xs) (payload_there xs) (λ h. omega (arith, payload_below xs h))
 
 -- an answer that is not `Done` is a refusal
-not_done : (r : PartRead) → OneOf (1 ∷ 2 ∷ 3 ∷ []) (tag_of the_type r) → (given_part r).number ≡ 0 → ⊥
-not_done (PartRead.Done p n) k z = ⊎_elim (λ e. omega arith) (⊎_elim (λ e. omega arith) (λ e. omega arith)) k
+not_done : (r : PartRead) → ((p n : ℕ) → r ≡ PartRead.Done p n → ⊥) → (given_part r).number ≡ 0 → ⊥
+not_done (PartRead.Done p n) k z = k p n refl
 not_done PartRead.WrongLength k z = omega arith
 not_done PartRead.NoSync k z = omega arith
 not_done PartRead.FieldNotPresent k z = omega arith
 
 -- the bytes of a part, by where it is said to lie
 module _ (xs ys : List ℕ) (r : PartRead) where
-  pub no_part : (a : Answer) → OneOf (1 ∷ 2 ∷ 3 ∷ []) (tag_of the_type r) → given_part r ≡ a → [] ≡ part_of a xs
+  pub no_part : (a : Answer) → ((p n : ℕ) → r ≡ PartRead.Done p n → ⊥) → given_part r ≡ a → [] ≡ part_of a xs
   no_part a k e = part-refused a xs (λ z. not_done r k (ap (λ (b : Answer). b.number) e ∙ z))
 
   module _ (p n : ℕ) (e : r ≡ PartRead.Done p n) (f : ys ≡ part_at p n xs) where

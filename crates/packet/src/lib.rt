@@ -19,42 +19,42 @@ pub const SIZE: usize = 188;
 // The size of every packet's header, in bytes: the content starts after it where there is no adaptation field.
 pub const HEADER_SIZE: usize = 4;
 
-#[derive(Drop)]
+#[derive(Clone, Copy)]
 pub enum Tried {
     Done,
     WrongLength,
     NoSync,
 }
 
-#[derive(Drop)]
+#[derive(Clone, Copy)]
 pub enum FlagRead {
     Done(bool),
     WrongLength,
     NoSync,
 }
 
-#[derive(Drop)]
+#[derive(Clone, Copy)]
 pub enum PidRead {
     Done(Pid),
     WrongLength,
     NoSync,
 }
 
-#[derive(Drop)]
+#[derive(Clone, Copy)]
 pub enum ScramblingRead {
     Done(TransportScramblingControl),
     WrongLength,
     NoSync,
 }
 
-#[derive(Drop)]
+#[derive(Clone, Copy)]
 pub enum ControlRead {
     Done(AdaptationControl),
     WrongLength,
     NoSync,
 }
 
-#[derive(Drop)]
+#[derive(Clone, Copy)]
 pub enum CounterRead {
     Done(ContinuityCounter),
     WrongLength,
@@ -62,7 +62,7 @@ pub enum CounterRead {
 }
 
 // Where a part of the packet lies.
-#[derive(Drop)]
+#[derive(Clone, Copy)]
 pub enum PartRead {
     Done { place: usize, length: usize },
     WrongLength,

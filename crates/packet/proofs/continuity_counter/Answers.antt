@@ -1,0 +1,20 @@
+use Rattle.packet.proofs.Laws.{packet_laws}
+use Rattle.packet.proofs.continuity_counter.Goals as goal
+
+pub returns-then-buf-ne-SIZE : goal.returns-then-buf-ne-SIZE
+returns-then-buf-ne-SIZE c = search packet_laws
+
+pub bounds-buf-0 : goal.bounds-buf-0
+bounds-buf-0 c = search packet_laws
+
+pub returns-then-buf-ne-SYNC_BYTE : goal.returns-then-buf-ne-SYNC_BYTE
+returns-then-buf-ne-SYNC_BYTE c = search packet_laws
+
+pub bounds-buf-3 : goal.bounds-buf-3
+bounds-buf-3 c = search packet_laws
+
+pub from_byte_four-requires : goal.from_byte_four-requires
+from_byte_four-requires c = search packet_laws
+
+pub returns : goal.returns
+returns c = search packet_laws
