@@ -4,15 +4,12 @@
 use mathlib.Core.Path.{◌≡◌, refl, sym, ap, ◌∙◌}
 use mathlib.Core.Bool.{true, false}
 use mathlib.Core.List.{List, [], ◌∷◌}
-use mathlib.Core.Logic.{⊎_elim}
 use Prim.Native.Nat.{ℕ, ◌+◌, ◌-◌, ◌*◌, ◌/◌, ◌%◌, ◌^◌, ◌≤◌, ◌<◌}
 use native.Mathlib.Nat.{add-zero}
 use native.Mathlib.Omega.{arith}
 use lib.ListN.{length, get_or, take, drop, length-drop, get_or-eq_default}
 use lib.Seq.{get_or-drop}
 use lib.Dec.{eqb}
-use types.Run.{OneOf}
-use denote.Enum.Declared.{tag_of}
 use borrow.Author.Rules.{rules}
 use borrow.Author.Tests.{le-ltb, lt-ltb, ltb-false, eq-eqb, ne_eqb}
 use Rattle.bits.specs.Answer.{Answer, answer, truth, unless, part_at, part_of, Within}
@@ -30,7 +27,6 @@ use Rattle.control.specs.Clock.{given_read, read_clock, clock_values}
 use Rattle.control.proofs.Laws.{clock-long}
 use Rattle.adaptation.specs.declared.ClockRead.{ClockRead}
 use Rattle.adaptation.specs.declared.PartRead.{PartRead}
-use Rattle.adaptation.specs.contracts.PartRead.{the_type}
 use Rattle.adaptation.specs.Adaptation.{given_clock, given_part, no_flags, not_field, read_flag, pcr_bit, opcr_bit, splice_bit}
 use Rattle.adaptation.specs.Adaptation.{private_bit, extension_bit, measured_end, measured, clock_at, opcr_at, splice_at, private_at, extension_at, empty_extension}
 use Rattle.adaptation.specs.Adaptation.{read_pcr, read_opcr, read_splice_countdown, read_private_data, read_extension}
@@ -171,14 +167,14 @@ extension-within xs =
     unless-within (empty_extension xs) _ xs (omega arith) (λ u. measured-within xs _ (ltb-false (length xs) _ o.1.1.0)))
 
 -- an answer that is not `Done` is a refusal
-refused : (r : PartRead) → OneOf (1 ∷ 2 ∷ 3 ∷ []) (tag_of the_type r) → (given_part r).number ≡ 0 → ⊥
-refused (PartRead.Done p n) k z = ⊎_elim (λ e. omega arith) (⊎_elim (λ e. omega arith) (λ e. omega arith)) k
+refused : (r : PartRead) → ((p n : ℕ) → r ≡ PartRead.Done p n → ⊥) → (given_part r).number ≡ 0 → ⊥
+refused (PartRead.Done p n) k z = k p n refl
 refused PartRead.WrongLength k z = omega arith
 refused PartRead.FieldNotPresent k z = omega arith
 refused PartRead.NotEnoughData k z = omega arith
 
 -- a part, by where it is said to lie
-pub no_part : (xs : List ℕ) (a : Answer) (r : PartRead) → OneOf (1 ∷ 2 ∷ 3 ∷ []) (tag_of the_type r) → given_part r ≡ a → [] ≡ part_of a xs
+pub no_part : (xs : List ℕ) (a : Answer) (r : PartRead) → ((p n : ℕ) → r ≡ PartRead.Done p n → ⊥) → given_part r ≡ a → [] ≡ part_of a xs
 no_part xs a r k e = part-refused a xs (λ z. refused r k (ap (λ (x : Answer). x.number) e ∙ z))
 
 module _ (xs x : List ℕ) (r : PartRead) (p n : ℕ) (e : r ≡ PartRead.Done p n) (f : x ≡ part_at p n xs) where

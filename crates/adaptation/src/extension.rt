@@ -9,7 +9,7 @@ use timestamp::{Timestamp, TimestampRead};
 const BIT_16: u64 = 1 << 16;
 
 // The legal time window offset; a field that is there may say that it is not valid.
-#[derive(Drop)]
+#[derive(Clone, Copy)]
 pub enum LtwRead {
     Valid(u16),
     NotValid,
@@ -17,21 +17,21 @@ pub enum LtwRead {
     NotEnoughData,
 }
 
-#[derive(Drop)]
+#[derive(Clone, Copy)]
 pub enum RateRead {
     Done(u32),
     FieldNotPresent,
     NotEnoughData,
 }
 
-#[derive(Drop)]
+#[derive(Clone, Copy)]
 pub struct SeamlessSplice {
     pub splice_type: u8,
     // The decoding time of the access unit after the splicing point.
     pub dts_next_au: Timestamp,
 }
 
-#[derive(Drop)]
+#[derive(Clone, Copy)]
 pub enum SpliceRead {
     Done(SeamlessSplice),
     FieldNotPresent,

@@ -13,13 +13,13 @@ use control::ClockRef;
 
 pub mod extension;
 
-#[derive(Drop)]
+#[derive(Clone, Copy)]
 pub enum FlagRead {
     Done(bool),
     WrongLength,
 }
 
-#[derive(Drop)]
+#[derive(Clone, Copy)]
 pub enum ClockRead {
     Done(ClockRef),
     WrongLength,
@@ -27,7 +27,7 @@ pub enum ClockRead {
     NotEnoughData,
 }
 
-#[derive(Drop)]
+#[derive(Clone, Copy)]
 pub enum ByteRead {
     Done(u8),
     WrongLength,
@@ -36,7 +36,7 @@ pub enum ByteRead {
 }
 
 // Where a part of the field lies.
-#[derive(Drop)]
+#[derive(Clone, Copy)]
 pub enum PartRead {
     Done { place: usize, length: usize },
     WrongLength,

@@ -1,0 +1,14 @@
+use Rattle.adaptation.proofs.Laws.{clock-answers}
+use Rattle.adaptation.proofs.pcr.Goals as goal
+
+pub returns-then-buf-eq0 : goal.returns-then-buf-eq0
+returns-then-buf-eq0 c = search clock-answers
+
+pub returns-then-buf-eq0-2 : goal.returns-then-buf-eq0-2
+returns-then-buf-eq0-2 c = search clock-answers
+
+pub returns-then-buf : goal.returns-then-buf
+returns-then-buf c = search clock-answers
+
+pub returns : goal.returns
+returns c = search clock-answers
