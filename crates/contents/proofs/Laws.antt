@@ -6,9 +6,6 @@ use mathlib.Core.List.{List, [], ◌∷◌, ◌++◌}
 use Prim.Native.Nat.{ℕ, suc, ◌+◌, ◌-◌, ◌*◌, ◌/◌, ◌%◌, ◌^◌, ◌≤◌, ◌<◌}
 use native.Mathlib.Nat.{div-one, div-mul-le_self, lt_of_le_of_lt}
 use native.Mathlib.Omega.{arith}
-use mathlib.Core.Logic.{◌⊎◌, ⊎_elim}
-use types.Run.{OneOf}
-use denote.Enum.Declared.{tag_of}
 use lib.ListN.{length, get_or, take, drop, length-drop}
 use lib.Dec.{eqb, ltb}
 use lib.Seq.{drop-cons, get_or-drop}
@@ -37,7 +34,6 @@ use Rattle.contents.specs.declared.EscrRead.{EscrRead}
 use Rattle.contents.specs.declared.CopyInfoRead.{CopyInfoRead}
 use Rattle.contents.specs.declared.PartRead.{PartRead}
 use Rattle.contents.specs.declared.PlacesRead.{PlacesRead}
-use Rattle.contents.specs.contracts.PartRead.{the_type}
 use Rattle.contents.proofs.Ends.{times-end, escr-end, rate-end, trick-end, copy-end, crc-end, rate-small, trick-small, copy-small, crc-small, end_least}
 use Rattle.contents.specs.Given.{refusal, given_contents, given_stamp, given_pts_dts, given_escr, given_copy_info, given_part, given_places}
 use Rattle.contents.specs.Contents.{flag_byte, data_length, times_size, escr_at, es_rate_at, trick_at, copy_info_at, crc_at, fields_end, payload_at, not_contents}
@@ -337,8 +333,8 @@ pub payload-within : (c : List ℕ) → Within (read_parsed_payload c) c
 payload-within c = contents-within c _ (λ h z. omega arith)
 
 -- an answer that is not `Done` is a refusal
-pub part-refusal : (r : PartRead) → OneOf (1 ∷ 2 ∷ []) (tag_of the_type r) → (given_part r).number ≡ 0 → ⊥
-part-refusal (PartRead.Done p n) k z = ⊎_elim (λ e. omega arith) (λ e. omega arith) k
+pub part-refusal : (r : PartRead) → ((p n : ℕ) → r ≡ PartRead.Done p n → ⊥) → (given_part r).number ≡ 0 → ⊥
+part-refusal (PartRead.Done p n) k z = k p n refl
 part-refusal PartRead.FieldNotPresent k z = omega arith
 part-refusal (PartRead.Refused r) k z = omega (arith, not_done r)
 
@@ -656,7 +652,7 @@ module _ (at : ℕ) (xs : List ℕ) (r : TimestampRead) (g : given r ≡ read_st
   stamp-prefix x y h e = absurd (omega (arith, long _ e h))
 
 -- a part, by where it is said to lie
-pub no_part : (xs : List ℕ) (a : Answer) (r : PartRead) → OneOf (1 ∷ 2 ∷ []) (tag_of the_type r) → given_part r ≡ a → [] ≡ part_of a xs
+pub no_part : (xs : List ℕ) (a : Answer) (r : PartRead) → ((p n : ℕ) → r ≡ PartRead.Done p n → ⊥) → given_part r ≡ a → [] ≡ part_of a xs
 no_part xs a r k e = part-refused a xs (λ z. part-refusal r k (ap (λ (x : Answer). x.number) e ∙ z))
 
 pub extension-part : (c x : List ℕ) (r : PartRead) (p n : ℕ) → r ≡ PartRead.Done p n → given_part r ≡ read_pes_extension c → x ≡ part_at p n c → x ≡ part_of (read_pes_extension c) c

@@ -14,7 +14,6 @@ use borrow.Author.Tests.{eqb-true}
 use Rattle.bits.specs.Answer.{Answer, answer, pick}
 use Rattle.bits.specs.Field.{bit, field, flag}
 use Rattle.bits.specs.Numbers.{done}
-use Rattle.bits.specs.Pack.{joined, bytes_of}
 use Rattle.bits.proofs.Packs.{RowIn, RowFits, row-front}
 use Rattle.bits.proofs.Tests.{one_answer}
 use Rattle.contents.specs.declared.Refusal.{Refusal}
@@ -52,7 +51,7 @@ use Rattle.contents.specs.Layout.{escr_table, escr_bytes, rate_table, es_rate_by
 use Rattle.contents.specs.Layout.{crc_table, crc_bytes}
 use Rattle.contents.specs.Trick.{control, trick_of, standard_trick, read_raw_trick}
 use Rattle.bits.proofs.Fields.{truth-bit, field-one}
-use Rattle.contents.proofs.Laws.{Accepted, accepted-by, field-on}
+use Rattle.contents.proofs.Laws.{accepted-by, field-on}
 
 -- ---- one answer only: any two answers that meet a reader's promise are equal
 

@@ -24,7 +24,7 @@ use control::{ClockMade, ClockRef};
 use timestamp::{Timestamp, TimestampRead};
 
 // Why contents are refused.
-#[derive(Drop)]
+#[derive(Clone, Copy)]
 pub enum Refusal {
     ShortContents,
     BadCheckBits,
@@ -32,7 +32,7 @@ pub enum Refusal {
     FieldsPastHeader,
 }
 
-#[derive(Drop)]
+#[derive(Clone, Copy)]
 pub enum ContentsRead {
     Done,
     Refused(Refusal),
@@ -218,7 +218,7 @@ fn pes_crc_end(buf: &[u8]) -> usize
 }
 
 // A number that is always there.
-#[derive(Drop)]
+#[derive(Clone, Copy)]
 pub enum ByteRead {
     Done(u8),
     Refused(Refusal),
@@ -263,13 +263,13 @@ pub fn pes_header_data_len(buf: &[u8]) -> ByteRead
     }
 }
 
-#[derive(Drop)]
+#[derive(Clone, Copy)]
 pub enum DataAlignment {
     Aligned,
     NotAligned,
 }
 
-#[derive(Drop)]
+#[derive(Clone, Copy)]
 pub enum AlignmentRead {
     Done(DataAlignment),
     Refused(Refusal),
@@ -289,13 +289,13 @@ pub fn data_alignment_indicator(buf: &[u8]) -> AlignmentRead
     }
 }
 
-#[derive(Drop)]
+#[derive(Clone, Copy)]
 pub enum CopyrightStatus {
     Protected,
     Undefined,
 }
 
-#[derive(Drop)]
+#[derive(Clone, Copy)]
 pub enum CopyrightRead {
     Done(CopyrightStatus),
     Refused(Refusal),
@@ -316,13 +316,13 @@ pub fn copyright(buf: &[u8]) -> CopyrightRead
     }
 }
 
-#[derive(Drop)]
+#[derive(Clone, Copy)]
 pub enum OriginalOrCopy {
     Original,
     Copy,
 }
 
-#[derive(Drop)]
+#[derive(Clone, Copy)]
 pub enum OriginalRead {
     Done(OriginalOrCopy),
     Refused(Refusal),
@@ -343,13 +343,13 @@ pub fn original_or_copy(buf: &[u8]) -> OriginalRead
 }
 
 // A timestamp of the header, or its own refusal.
-#[derive(Drop)]
+#[derive(Clone, Copy)]
 pub enum StampRead {
     Done(Timestamp),
     MarkerBitNotSet { bit_number: u8 },
 }
 
-#[derive(Drop)]
+#[derive(Clone, Copy)]
 pub enum PtsDts {
     PtsOnly(StampRead),
     Both { pts: StampRead, dts: StampRead },
@@ -397,7 +397,7 @@ fn stamp_at(buf: &[u8], at: usize) -> StampRead
     }
 }
 
-#[derive(Drop)]
+#[derive(Clone, Copy)]
 pub enum EscrRead {
     Done(ClockRef),
     FieldNotPresent,
@@ -439,7 +439,7 @@ fn escr_of(a0: u8, a1: u8, a2: u8, a3: u8, a4: u8, a5: u8) -> EscrRead
 }
 
 // The two numbers of a clock reference.
-#[derive(Drop)]
+#[derive(Clone, Copy)]
 pub struct ClockParts {
     pub base: u64,
     pub extension: u16,
@@ -466,22 +466,22 @@ pub fn escr_parts(a0: u8, a1: u8, a2: u8, a3: u8, a4: u8, a5: u8) -> ClockParts
 }
 
 // The rate at which an elementary stream comes, in units of 50 bytes a second.
-#[derive(Drop)]
+#[derive(Clone, Copy)]
 pub struct EsRate(u32);
 
-#[derive(Drop)]
+#[derive(Clone, Copy)]
 pub enum EsRateMade {
     Done(EsRate),
     OutOfRange,
 }
 
-#[derive(Drop)]
+#[derive(Clone, Copy)]
 pub enum EsRateNumber {
     Done(u32),
     OutOfRange,
 }
 
-#[derive(Drop)]
+#[derive(Clone, Copy)]
 pub enum EsRateRead {
     Done(EsRate),
     FieldNotPresent,
@@ -544,7 +544,7 @@ pub fn rate_of(a0: u8, a1: u8, a2: u8) -> u32
     (b0 % 128 * BIT_15 + b1 * 128 + b2 / 2) as u32
 }
 
-#[derive(Drop)]
+#[derive(Clone, Copy)]
 pub enum FrequencyTruncationCoefficientSelection {
     DCNonZero,
     FirstThreeNonZero,
@@ -552,7 +552,7 @@ pub enum FrequencyTruncationCoefficientSelection {
     AllMaybeNonZero,
 }
 
-#[derive(Drop)]
+#[derive(Clone, Copy)]
 pub enum DsmTrickMode {
     FastForward {
         field_id: u8,
@@ -579,7 +579,7 @@ pub enum DsmTrickMode {
     },
 }
 
-#[derive(Drop)]
+#[derive(Clone, Copy)]
 pub enum TrickRead {
     Done(DsmTrickMode),
     FieldNotPresent,
@@ -641,7 +641,7 @@ fn truncation_of(byte: u8) -> FrequencyTruncationCoefficientSelection
 }
 
 // A byte that its flag says is there.
-#[derive(Drop)]
+#[derive(Clone, Copy)]
 pub enum FieldRead {
     Done(u8),
     FieldNotPresent,
@@ -664,7 +664,7 @@ pub fn raw_trick_mode(buf: &[u8]) -> FieldRead
     }
 }
 
-#[derive(Drop)]
+#[derive(Clone, Copy)]
 pub enum CopyInfoRead {
     Done(u8),
     FieldNotPresent,
@@ -697,7 +697,7 @@ fn copy_info_of(byte: u8) -> CopyInfoRead
     CopyInfoRead::Done(byte % 128)
 }
 
-#[derive(Drop)]
+#[derive(Clone, Copy)]
 pub enum CrcRead {
     Done(u16),
     FieldNotPresent,
@@ -728,7 +728,7 @@ pub fn crc_of(a0: u8, a1: u8) -> u16
 }
 
 // Where a part of the contents lies.
-#[derive(Drop)]
+#[derive(Clone, Copy)]
 pub enum PartRead {
     Done { place: usize, length: usize },
     FieldNotPresent,
@@ -792,7 +792,7 @@ pub fn payload(buf: &[u8]) -> &[u8]
 }
 
 // Where each flagged field begins, or would; where an extension begins, after them; and where the payload begins.
-#[derive(Drop)]
+#[derive(Clone, Copy)]
 pub enum PlacesRead {
     Done {
         escr: usize,

@@ -1,0 +1,23 @@
+use Rattle.contents.proofs.Laws.{contents-laws, fixed-answers}
+use Rattle.contents.proofs.copyright.Goals as goal
+
+pub from_bytes-requires : goal.from_bytes-requires
+from_bytes-requires c = search contents-laws
+
+pub enum_known-r : goal.enum_known-r
+enum_known-r c = search contents-laws
+
+pub enum_told-1 : goal.enum_told-1
+enum_told-1 c = search contents-laws
+
+pub bounds-buf-0 : goal.bounds-buf-0
+bounds-buf-0 c = search contents-laws
+
+pub returns-then-buf-eq0 : goal.returns-then-buf-eq0
+returns-then-buf-eq0 c = search fixed-answers
+
+pub returns-in-Refused : goal.returns-in-Refused
+returns-in-Refused c = search fixed-answers
+
+pub returns-else-buf-eq0 : goal.returns-else-buf-eq0
+returns-else-buf-eq0 c = search fixed-answers

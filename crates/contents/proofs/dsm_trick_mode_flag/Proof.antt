@@ -1,8 +1,0 @@
-use Rattle.contents.proofs.Laws.{contents-laws, flag-answers}
-use Rattle.contents.proofs.dsm_trick_mode_flag.Statement.{statement}
-use Rattle.contents.proofs.dsm_trick_mode_flag.Tie as tie
-
-pub dsm_trick_mode_flag_spec : {M : Type 1} → statement M
-dsm_trick_mode_flag_spec {M} =
-    let answers = tie.spec {M = M} (λ c. search contents-laws) (λ c. search flag-answers) in
-    tie.close answers

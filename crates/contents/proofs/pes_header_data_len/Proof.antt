@@ -1,8 +1,0 @@
-use Rattle.contents.proofs.Laws.{contents-laws, fixed-answers}
-use Rattle.contents.proofs.pes_header_data_len.Statement.{statement}
-use Rattle.contents.proofs.pes_header_data_len.Tie as tie
-
-pub pes_header_data_len_spec : {M : Type 1} → statement M
-pes_header_data_len_spec {M} =
-    let answers = tie.spec {M = M} (λ c κs. search contents-laws) (λ c. search contents-laws) (λ c. search contents-laws) (λ c. search contents-laws) (λ c. search fixed-answers) (λ c. search fixed-answers) in
-    tie.close answers
