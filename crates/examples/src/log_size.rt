@@ -43,7 +43,7 @@ fn packet(start: bool, counter: usize) -> [u8; 188]
 }
 
 // So many packets, of which so many, the first ones, have the start flag; and the counter of the very first.
-#[derive(Drop)]
+#[derive(Clone, Copy)]
 struct Row {
     starts: usize,
     packets: usize,

@@ -18,20 +18,20 @@ pub mod row;
 
 // Where the bytes so far lie: in the packet of the begin, at a place, or in the store, from its start on. After a begin they stand in
 // the store too.
-#[derive(Drop)]
+#[derive(Clone, Copy)]
 pub enum Lies {
     Packet(usize),
     Store,
 }
 
-#[derive(Drop)]
+#[derive(Clone, Copy)]
 pub struct Gathering {
     pub opened: bool,
     pub count: usize,
     pub lies: Lies,
 }
 
-#[derive(Drop)]
+#[derive(Clone, Copy)]
 pub enum Verdict {
     Done,
     WrongLength,
@@ -41,13 +41,13 @@ pub enum Verdict {
 }
 
 // What a call gives, and the state after it: 20 apart, a refusal leaves the state.
-#[derive(Drop)]
+#[derive(Clone, Copy)]
 pub struct Gathered {
     pub verdict: Verdict,
     pub gathering: Gathering,
 }
 
-#[derive(Drop)]
+#[derive(Clone, Copy)]
 pub enum HeldRead {
     Done,
     WrongLength,
@@ -71,7 +71,7 @@ impl Gathering {
 // ---- which bytes belong to a unit
 
 // A part of a slice, by place and length.
-#[derive(Drop)]
+#[derive(Clone, Copy)]
 struct Extent {
     place: usize,
     length: usize,

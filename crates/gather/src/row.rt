@@ -6,7 +6,7 @@ ghost use Rattle.gather.specs.Row.{lies_of, lies_number, gathering_of, gathering
 use crate::{Gathering, Lies};
 
 // The gathering state that a row stands for, if for one.
-#[derive(Drop)]
+#[derive(Clone, Copy)]
 pub enum RowRead {
     Is(Gathering),
     Stray,

@@ -42,5 +42,5 @@ pub const NO_ROOM: u32 = 19;
 pub const STORE_FULL: u32 = 20;
 
 // Two numbers of an answer.
-#[derive(Drop)]
+#[derive(Clone, Copy)]
 pub struct Pair(pub u64, pub u64);

@@ -249,7 +249,7 @@ fn truncated(x: FrequencyTruncationCoefficientSelection) -> u64
 }
 
 // A kind, and up to three numbers given with it.
-#[derive(Drop)]
+#[derive(Clone, Copy)]
 pub struct Four(pub u64, pub u64, pub u64, pub u64);
 
 pub fn trick(t: DsmTrickMode) -> Four

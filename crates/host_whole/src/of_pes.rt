@@ -9,7 +9,7 @@ use host::numbers::DONE;
 use host::of_pes::{cmv_pes_header_from_bytes, cmv_pes_header_pes_packet_length};
 
 // What an id stands for: its kind, what is kept beside it, and whether parsed contents follow the head, as 0 or 1.
-#[derive(Drop)]
+#[derive(Clone, Copy)]
 struct Id(u64, u64, u64);
 
 // By the id's number alone: StreamId::from_id makes a choice of 23 cases, which the single entries turn into numbers again.

@@ -9,38 +9,38 @@ use bits::wide;
 use control::ContinuityCounter;
 
 // The machine that a row stands for, if for one.
-#[derive(Drop)]
+#[derive(Clone, Copy)]
 pub enum RowRead {
     Is(Machine),
     Stray,
 }
 
 // What a number stands for, if for anything.
-#[derive(Drop)]
+#[derive(Clone, Copy)]
 pub enum ModeRead {
     Is(Mode),
     Stray,
 }
 
-#[derive(Drop)]
+#[derive(Clone, Copy)]
 pub enum PhaseRead {
     Is(Phase),
     Stray,
 }
 
-#[derive(Drop)]
+#[derive(Clone, Copy)]
 pub enum LastRead {
     Is(Last),
     Stray,
 }
 
-#[derive(Drop)]
+#[derive(Clone, Copy)]
 pub enum AgainRead {
     Is(Repeat),
     Stray,
 }
 
-#[derive(Drop)]
+#[derive(Clone, Copy)]
 pub enum AnnouncedRead {
     Is(bool),
     Stray,

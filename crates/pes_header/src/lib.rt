@@ -13,7 +13,7 @@ use contents::{PartRead, Refusal};
 use pes::{ContentsRead, HeadRead, LengthRead, StreamIdRead};
 
 // Where the payload lies, or why there is none: the head is refused (3, 4), or the contents that it announces are (5 to 8).
-#[derive(Drop)]
+#[derive(Clone, Copy)]
 pub enum PayloadRead {
     Done { place: usize, length: usize },
     ShortHeader,
@@ -69,7 +69,7 @@ pub fn payload(buf: &[u8]) -> &[u8]
 // Each reader answers of the bytes kept as the function of its name does, `head` as `pes::from_bytes`. Where the head is refused the
 // readers say which refusal it was, and a part handed out is empty. The fields of parsed contents are read off `contents_part` where
 // `contents` says Parsed, as in the original; elsewhere they cannot be asked.
-#[derive(Drop)]
+#[derive(Clone, Copy)]
 pub struct PesHeader<'a> {
     pub buf: &'a [u8],
 }

@@ -20,13 +20,13 @@ use pes::StreamId;
 pub mod row;
 
 // What the units of a list share: the PID, and the counter of the first packet.
-#[derive(Drop)]
+#[derive(Clone, Copy)]
 pub struct Route {
     pub pid: u16,
     pub counter: u8,
 }
 
-#[derive(Drop)]
+#[derive(Clone, Copy)]
 pub enum Times {
     Untimed,
     Pts(u64),
@@ -34,33 +34,33 @@ pub enum Times {
 }
 
 // Base and extension.
-#[derive(Drop)]
+#[derive(Clone, Copy)]
 pub enum Escr {
     Absent,
     Present(u64, u16),
 }
 
-#[derive(Drop)]
+#[derive(Clone, Copy)]
 pub enum Rate {
     Absent,
     Present(u32),
 }
 
 // The trick mode byte, and copy info.
-#[derive(Drop)]
+#[derive(Clone, Copy)]
 pub enum Byte {
     Absent,
     Present(u8),
 }
 
-#[derive(Drop)]
+#[derive(Clone, Copy)]
 pub enum Crc {
     Absent,
     Present(u16),
 }
 
 // The fields of a unit. Copyright is the plain bit, and the trick mode byte is written as it is.
-#[derive(Drop)]
+#[derive(Clone, Copy)]
 pub struct Unit {
     pub id: u8,
     pub bounded: bool,
@@ -77,7 +77,7 @@ pub struct Unit {
 }
 
 // Done with the number of packets.
-#[derive(Drop)]
+#[derive(Clone, Copy)]
 pub enum Written {
     Done(usize),
     BadField,

@@ -20,7 +20,7 @@ const BIT_16: u64 = 1 << 16;
 const BIT_32: u64 = 1 << 32;
 
 // The unit that a row stands for, if for one.
-#[derive(Drop)]
+#[derive(Clone, Copy)]
 pub enum RowRead {
     Is(Unit),
     Stray,
