@@ -1,15 +1,14 @@
 # shellcheck shell=bash disable=SC2034
-# Sourced by the scripts of this folder: where things stand, how crates are proved, how Rust is built over the library, how x86-64
-# programs are run.
+# Sourced by the scripts of this folder: where things stand, how crates are proved, how Rust is built over the library.
 
 top=$(cd "$(dirname "${BASH_SOURCE[0]}")/.." && pwd -P)
 target=$top/target
-parts=(host host_streams host_whole)     # the crates whose entries are the library
-library=$target/library/libclomaverift.a # the library, which tools/library makes
-abi=3                                    # of its layout: raised if an entry's signature, a row or a number changes its meaning
-triple=x86_64-unknown-linux-gnu          # what the library is compiled for
+parts=(host_c host_streams_c host_whole_c) # the static libraries whose exports are the library
+library=$target/library/libclomaverift.a   # the library, which tools/library makes
+abi=3                                      # of its layout: raised if an entry's signature, a row or a number changes its meaning
+triple=x86_64-unknown-linux-gnu            # what the library is compiled for
 
-toolchain='logic 064da1ca440f63e7' # what `rt version` has to end with; README.md names it for the reader
+toolchain='logic dac8208d650f15bf' # what `rt version` has to end with; README.md names it for the reader
 
 fail() {
     echo "$(basename "$0"): $*" >&2
@@ -47,8 +46,6 @@ if [ "${1:-}" = --help ]; then
     exit 0
 fi
 
-on_x86() { [ "$(uname -m)" = x86_64 ]; }
-
 # Whether the toolchain is the one that the project is proved with; a warning where it is not.
 is_pinned() {
     local version
@@ -67,9 +64,8 @@ need_python() {
     type -P python3 >/dev/null || fail "python3 is missing from PATH"
 }
 
-# The folder of the Rattle toolchain, and a program of it for this machine.
-kit() { dirname "$(dirname "$(rt doc)")"; }
-kit_tool() { echo "$(kit)/on/$(uname -m)/toolchain/bin/$1"; } # NAME
+# A program of the toolchain that the Rattle toolchain brings: clang or llvm-ar.
+kit_tool() { echo "$(dirname "$(rt doc)")/toolchain/bin/$1"; } # NAME
 
 # Whether a file is there and no input is newer.
 up_to_date() { # FILE INPUT..
@@ -87,7 +83,7 @@ below() { # CRATE..
 
 # Whether what is built of crates is there, and no source of them or of those below them is newer.
 crates_up_to_date() { # FILE CRATE..
-    local crate folder folders=()
+    local crate folder folders=("$top/crates.txt")
     for crate in $(below "${@:2}"); do
         for folder in "$top/crates/$crate"/{src,specs,proofs}; do
             [ ! -d "$folder" ] || folders+=("$folder")
@@ -96,56 +92,21 @@ crates_up_to_date() { # FILE CRATE..
     up_to_date "$1" "${folders[@]}"
 }
 
-declare -A proved=() # the crates and archives that this run has proved
-
-# Says what is proved now, in how many steps, which are crates and archives, and how many minutes that takes from nothing.
-announce_proofs() { # WHAT STEPS MINUTES
+# Proves crates and builds them, those first that the others are built on: a library for the crates above it, a static library as an archive,
+# a program, which is run on no input. What rt says goes to a log, which is named if it fails; a line is shown for each crate.
+build_crates() { # WHAT MINUTES CRATE..
+    local crate verb began number=0 crates=("${@:3}") log=$target/prove.log
     need_rt
     is_pinned || true
-    proofs=$2
-    echo "$(basename "$0"): proving $1, in $2 steps: about $3 minutes on two cores, less where some are proved" >&2
-}
-
-# A line for one of them, with its seconds. One that was proved before and has not changed counts too, without a line.
-count_proof() { # NAME SECONDS
-    [ -z "${proved[$1]:-}" ] || return 0
-    proved[$1]=yes
-    [[ $2 = unchanged* ]] || printf '%4d of %d  %s, %s\n' "${#proved[@]}" "$proofs" "$1" "$2" >&2
-}
-
-# Has rt prove crates. What it says goes to a log, which is named if it fails; a line is shown for each crate.
-prove() { # CRATE..
-    local line log=$target/prove.log
     mkdir -p "$target"
-    while IFS= read -r line; do
-        echo "$line"
-        [[ ! $line =~ ^rt:\ ([a-z_]+)\ proved\ \((.*)\)$ ]] || count_proof "${BASH_REMATCH[@]:1}"
-    done < <(cd "$top" && rt check "$@" 2>&1) >"$log"
-    wait $! || fail "'rt check $*' failed; $log has what it said"
-}
-
-# Has rt build archives, all at a time. Two runs of rt in one folder disturb each other's logs, so each has a folder of its own, with links to
-# the crates and to what is proved of them. It checks the crate of each archive once more.
-prove_archives() { # CRATE..
-    local part room rooms=$target/archives
-    declare -A builds=()
-    rm -rf "$rooms"
-    mkdir -p "$target/staticlib"
-    for part in "$@"; do
-        room=$rooms/$part
-        mkdir -p "$room/target"
-        ln -s "$top"/crates{,.txt} "$room"
-        ln -s "$target"/{rlib,stamp} "$room/target"
-        (SECONDS=0 && cd "$room" && rt staticlib "$part" >log 2>&1 && echo "$SECONDS s" >seconds) &
-        builds[$part]=$!
+    echo "$(basename "$0"): proving $1, ${#crates[@]} crates: about $2 minutes on four processors, less where some are proved" >&2
+    for crate in "${crates[@]}"; do
+        began=$SECONDS number=$((number + 1)) verb=lib
+        [ ! -e "$top/crates/$crate/src/main.rt" ] || verb=run
+        (cd "$top/crates/$crate" && rt "$verb" </dev/null) >"$log" 2>&1 ||
+            fail "crate $crate: 'rt $verb' failed; $log has what it said"
+        printf '%4d of %d  %s, %d s\n' "$number" "${#crates[@]}" "$crate" $((SECONDS - began)) >&2
     done
-    for part in "$@"; do
-        room=$rooms/$part
-        wait "${builds[$part]}" || fail "'rt staticlib $part' failed; $room/log has what it said"
-        mv "$room/target/staticlib/lib$part.a" "$target/staticlib/"
-        count_proof "lib$part.a" "$(cat "$room/seconds")"
-    done
-    rm -rf "$rooms"
 }
 
 # ---- Rust over the library.
@@ -210,20 +171,6 @@ need_rust() { # NAME RUSTC-WORDS..
 
 # Links such a program with a library, its archives or objects.
 link_rust() { # NAME PROGRAM LIBRARY..
-    local linker=cc
-    on_x86 || linker=x86_64-linux-gnu-gcc
-    type -P "$linker" >/dev/null || fail "the linker $linker is missing: run tools/setup"
-    "$linker" -Wl,--gc-sections -o "$2" "$target/$1/lib$1.a" "${@:3}" || fail "rust/$1 cannot be linked with the library"
-}
-
-# Runs an x86-64 program: as it is where that can be, else as rt does, under the toolchain's emulator and C library.
-run_x86() { # PROGRAM WORDS..
-    local tools
-    if on_x86; then
-        "$@"
-        return
-    fi
-    need_rt
-    tools=$(kit)/on/$(uname -m)/toolchain
-    "$tools/bin/qemu-x86_64" "$tools/lib/ld-linux-x86-64.so.2" --library-path "$tools/lib" "$@"
+    type -P cc >/dev/null || fail "the linker cc is missing: run tools/setup"
+    cc -Wl,--gc-sections -o "$2" "$target/$1/lib$1.a" "${@:3}" || fail "rust/$1 cannot be linked with the library"
 }

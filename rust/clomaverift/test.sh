@@ -1,8 +1,7 @@
 #!/usr/bin/env bash
 # rust/clomaverift/test.sh : builds the crate over the library, by rustc alone, with and without std, and runs its tests: those of its
 # modules, of tests/, of its documentation, what its build script says, that it does not link with a library of another layout, and the
-# examples on the sample stream. The library is proved and built first if it is missing or older than a source. On a machine other than
-# x86-64 all of it runs under Debian's qemu-user, which tools/setup installs.
+# examples on the sample stream. The library is proved and built first if it is missing or older than a source.
 set -euo pipefail
 # shellcheck source-path=SCRIPTDIR source=../../tools/common.sh
 . "$(dirname "$0")/../../tools/common.sh"
@@ -14,12 +13,8 @@ linked=(-L "native=$(dirname "$library")" -lstatic=clomaverift)
 crate=(--extern "clomaverift=$out/libclomaverift.rlib")
 flags=(--target "$triple" --edition 2021 -D warnings)
 std=(--cfg 'feature="std"')
-runner=$here/.cargo/runner # Rust's own start-up does not run under the toolchain's emulator, and a test has no other
+runner=$here/.cargo/runner
 mapfile -t tests < <(basename -s .rs "$here"/tests/*.rs)
-if ! on_x86; then
-    flags+=(-C linker=x86_64-linux-gnu-gcc)
-    type -P qemu-x86_64 >/dev/null || fail "qemu-x86_64 is missing, under which the tests run on $(uname -m): run tools/setup"
-fi
 
 build() { # FILE PROGRAM RUSTC-WORDS..
     CARGO_MANIFEST_DIR=$here "$rustc" "${flags[@]}" -o "$out/$2" "${@:3}" "$here/$1" || fail "$1 cannot be built"

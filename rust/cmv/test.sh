@@ -60,7 +60,7 @@ check_sample() {
     prints "$stored/sample-payload" payload "$scratch/rewritten" "${pid[@]}"
     cmv events - <"$sample" | diff "$stored/sample-events.txt" - || fail "standard input is read as something else"
     cmv events "$sample" "${pid[@]}" | diff "$stored/sample-events.txt" - || fail "the PID alone has other events"
-    [ ! -e "$target/bin/lister" ] ||
+    [ ! -e "$top/crates/lister/out/lister" ] ||
         diff <("$top/tools/list" "$sample" | sed '1d;$d') <(awk 'NR > 1 { print $1, $3, $4, $5 }' "$stored/sample-events.txt") ||
         fail "the events are not those of the lister"
 }
@@ -238,7 +238,7 @@ check_progress() {
     [ ! -s "$scratch/said" ] || fail "a progress bar that no terminal shows"
 }
 
-# Side by side, for on Arm most of the time is the emulator's start, and there is one for each run of the program.
+# Side by side, for there are many runs of the program.
 check_all() {
     local name job jobs=() failed=0
     for name in sample multiplex twice late lost_units bad_input output_errors usage progress; do

@@ -10,17 +10,13 @@ from typing import NamedTuple
 from edits import TOP
 
 NUMBERS = ("bits", "Numbers")  # the crate and the file that define the numbers
-WORD = re.compile(r"[\w′-]+")
+WORD = re.compile(r"[\w'-]+")
 
 
 def defined_numbers():
     """Of each number: its name in the definitions, and itself."""
     text = (TOP / "crates/bits/specs/Numbers.antt").read_text()
     return {name: int(number) for name, number in re.findall(r"\nabbrev pub (\w+) : ℕ\n\1 = (\d+)\n", text)}
-
-
-def upper(name):
-    return re.sub(r"([A-Z])", r"_\1", name).upper()
 
 
 class File(NamedTuple):
@@ -54,7 +50,7 @@ def source(here, folder, ending, comment):
 
 
 DEFINED = re.compile(r"^(?:(?:abbrev|unfoldable|pub) )+(?:record |data )?([^\s(:]+)", re.M)
-IMPORTED = re.compile(r"^(?:ghost )?use Rattle·(\w+?)(?:·specs)?\.specs\.(\w+)\.\{([^}]*)\}", re.M)
+IMPORTED = re.compile(r"^(?:ghost )?use Rattle\.(\w+)\.specs\.(\w+)\.\{([^}]*)\}", re.M)
 
 
 def imported(text):
@@ -84,13 +80,13 @@ def by_definition(promise, text):
 
 FUNCTION = re.compile(
     r'^(?:pub )?(?:extern "C" )?fn (?P<name>\w+)\([^)]*\).*\n'
-    r"(?:    requires .*\n(?:        .*\n)*)?"
-    r"(?P<promise>(?:    ensures .*\n(?:        .*\n)*)?)"
+    r"(?:    requires .*\n(?:        .*\n)*)*"
+    r"(?P<promise>(?:    ensures .*\n(?:        .*\n)*)*)"
     r"(?P<body>\{\n(?:.*\n)*?\})",
     re.M,
 )
 CONSTANT = re.compile(r"^pub const ([A-Z_]+): u32 = \d+;", re.M)
-USED = re.compile(r"^use (\w+)((?:::\w+)*)::(\w+);", re.M)
+USED = re.compile(r"^use (\w+)((?:::\w+)*)::(?:(\w+)|\{([^}]*)\});", re.M)
 
 
 def functions(text):
@@ -105,13 +101,17 @@ def code(here):
         return None
     bodies = {name: found["body"] for name, found in functions(text).items()}
     used = USED.findall(text.replace("use crate::", f"use {here[0]}::"))
-    taken = {name: (crate, module.removeprefix("::") or "lib") for crate, module, name in used}
+    taken = {
+        name.strip(): (crate, module.removeprefix("::") or "lib")
+        for crate, module, one, group in used
+        for name in (group or one).split(",")
+    }
     return File({**bodies, **{name: "" for name in CONSTANT.findall(text)}}, taken)
 
 
 def by_code(crate, module, name):
     """The numbers that the code names which a function leads to."""
-    named = {upper(name): number for name, number in defined_numbers().items()}
+    named = {name.upper(): number for name, number in defined_numbers().items()}
     return {named[name] for here, name in reached(((crate, module), name), code) if here == ("host", "numbers") and name in named}
 
 

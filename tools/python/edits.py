@@ -134,7 +134,7 @@ def without_promises(text):
     """The words of a source file without comments, what is imported for promises, and the promises themselves."""
     text = re.sub(r"//[^\n]*|^ghost use [^;]*;", "", text, flags=re.M)
     kept, start = [], 0
-    for clause in re.finditer(r"\b(?:requires|ensures) \{", text):
+    for clause in re.finditer(r"\b(?:requires|ensures)(?: \*)?(?: \w+)? \{", text):
         kept.append(text[start : clause.start()])
         start = closing(text, clause.end())
     return " ".join("".join([*kept, text[start:]]).split())

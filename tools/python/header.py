@@ -10,8 +10,9 @@ A `&[u8]` of the sources is two C arguments, pointer and length; a `&mut` number
 import re
 import sys
 
-from answers import answers, defined_numbers, upper
+from answers import answers, defined_numbers
 from edits import TOP
+from sources import exports_of, unlike
 
 COMMON = (TOP / "tools/common.sh").read_text()
 CRATES = re.search(r"^parts=\(([\w ]+)\)", COMMON, re.M)[1].split()
@@ -25,8 +26,8 @@ SLICE = re.compile(r"&(mut )?\[u8\]")
 ROW = re.compile(r"&(?:mut )?\[(\w+); (\d+)\]")
 C_TYPES = {"u8": "uint8_t", "u16": "uint16_t", "u32": "uint32_t", "u64": "uint64_t", "usize": "size_t", None: "void"}
 
-ENTRY = re.compile(r'#\[no_mangle\]\npub extern "C" fn (\w+)\(([^)]*)\)(?: -> (\w+))?\n')
-EXPORTS = re.compile(r'#\[no_mangle\]|extern "C"')
+ENTRY = re.compile(r'#\[unsafe\(no_mangle\)\]\npub extern "C" fn (\w+)\(([^)]*)\)(?: -> (\w+))?\n')
+EXPORTS = re.compile(r'#\[unsafe\(no_mangle\)\]|extern "C"')
 
 
 # ---- the exported functions
@@ -66,8 +67,11 @@ def stop(why):
 
 
 def exported():
-    """All exported functions, in the order of the sources."""
+    """All exported functions, in the order of the sources. Each is the function of the same name of the library that its crate exports."""
     found = []
+    for crate in CRATES:
+        if named := unlike(crate):
+            stop(f"{crate} does not export the functions of {exports_of(crate)} as they are: {', '.join(named)}")
     for path in (path for crate in CRATES for path in sorted((TOP / "crates" / crate / "src").glob("*.rt"))):
         text = path.read_text()
         some = [Entry(*match.groups(), path.parts[-3], path.stem) for match in ENTRY.finditer(text)]
@@ -79,7 +83,7 @@ def exported():
 
 def numbers():
     """Of each number: its name and itself. The definitions say it; the constants of the code have to be equal."""
-    found = [(upper(name), number) for name, number in defined_numbers().items()]
+    found = [(name.upper(), number) for name, number in defined_numbers().items()]
     code = re.findall(r"pub const (\w+): u32 = (\d+);", (TOP / "crates/host/src/numbers.rt").read_text())
     if [(name, str(number)) for name, number in found] != code:
         stop("the numbers of crates/bits/specs/Numbers.antt and crates/host/src/numbers.rt differ")
@@ -89,7 +93,7 @@ def numbers():
 def kinds():
     """The kinds of events: of each its name and number."""
     found = re.findall(r"\nabbrev pub (\w+) : ℕ\n\1 = (\d+)\n", (TOP / "crates/event_log/specs/Entry.antt").read_text())
-    return [(upper(name), int(number)) for name, number in found]
+    return [(name.upper(), int(number)) for name, number in found]
 
 
 def packet_size():
@@ -144,7 +148,7 @@ def check_numbers(entry, block, group):
     untold = [number for number, when in block.told.items() if when is None and group.told.get(number) is None]
     if untold:
         stop(f"tools/header.txt: {entry.name}: the group does not tell when it is refused with {untold[0]}")
-    ours, theirs = {*block.told, *block.within}, answers(entry.crate, entry.module, entry.name)
+    ours, theirs = {*block.told, *block.within}, answers(exports_of(entry.crate), entry.module, entry.name)
     if ours != theirs:
         stop(f"tools/header.txt: {entry.name}: the refusals told are {sorted(ours)}, those of the sources {sorted(theirs)}")
 

@@ -1,7 +1,10 @@
 """The LLVM module of a crate: what the toolchain hands to its clang.
 
-rt builds only what is proved, but 'rt try' compiles a program that is not. So the crate stands in a copy of the crates as a program with an
-empty main, in a copy of the toolchain's links whose clang keeps the module that it is handed, and ends there.
+It stands in a copy of the Rattle toolchain's links, whose clang keeps the module that it is handed. There are two ways to one:
+
+- Of a static library that is proved, as 'rt lib' builds it: every function that its exports reach, as the library has it.
+- Of one that is not, by 'rt try', which compiles a program with no proof: so the crate stands in a copy of the crates as a program whose main
+  calls every export. The module has tests of its own, at which what no proof allows ends the program, as a sum that wraps.
 """
 
 import os
@@ -14,10 +17,18 @@ from edits import TOP
 from sources import below
 
 TRIPLE = "x86_64-unknown-linux-gnu"  # what the toolchain compiles for
+KEPT = "CLOMAVERIFT_MODULE"  # names the file in which clang keeps its module
+
+# The program that 'rt try' runs is the one that it compiles with an address sanitizer; it is not to be run.
+CLANG = f"""#!/bin/sh
+cp module.bc "${KEPT}"
+case " $* " in *" -fsanitize=address "*) exit 1 ;; esac
+exec '%s' "$@"
+"""
 
 
 def run(words, **options):
-    return subprocess.run([str(word) for word in words], capture_output=True, text=True, **options)
+    return subprocess.run([str(word) for word in words], stdin=subprocess.DEVNULL, capture_output=True, text=True, **options)
 
 
 def must_run(words, **options):
@@ -28,60 +39,75 @@ def must_run(words, **options):
     return done.stdout
 
 
-def link_all_but(folder, entry, new):
-    """Links to all that is in a folder but one entry."""
+def link_all_but(folder, entries, new):
+    """Links to all that is in a folder but some entries."""
     new.mkdir(parents=True)
     for one in folder.iterdir():
-        if one.name != entry:
+        if one.name not in entries:
             (new / one.name).symlink_to(one)
 
 
-class Modules:
-    """Makes modules in a folder, with a copy of the crates for each crate that one is wanted of."""
+class Kit:
+    """The copy of the toolchain's links, in a folder."""
 
-    def __init__(self, scratch, parts):
+    def __init__(self, scratch):
         self.scratch = scratch
-        self.home = Path(must_run(["rt", "doc"]).strip()).parents[1]
-        self.tools = self.home / "on" / os.uname().machine / "toolchain"
-        self.clang = self.tools / "bin" / "clang"
-        self.kit = scratch / "kit"
-        self.make_kit()
-        for part in parts:
-            self.copy_crates(part)
+        home = Path(must_run(["rt", "doc"]).strip()).parent
+        self.clang = home / "toolchain" / "bin" / "clang"
+        kit = scratch / "kit"
+        link_all_but(home, ["bin", "toolchain"], kit)
+        # rt finds the toolchain by its own place, beyond links
+        link_all_but(home / "bin", ["rt", "rtlib.py"], kit / "bin")
+        for name in ("rt", "rtlib.py"):
+            shutil.copy(home / "bin" / name, kit / "bin")
+        link_all_but(home / "toolchain", ["bin"], kit / "toolchain")
+        link_all_but(self.clang.parent, ["clang"], kit / "toolchain" / "bin")
+        own = kit / "toolchain" / "bin" / "clang"
+        own.write_text(CLANG % self.clang)
+        own.chmod(0o755)
+        self.rt = kit / "bin" / "rt"
 
-    def make_kit(self):
-        own = Path("on") / os.uname().machine
-        link_all_but(self.home, "on", self.kit)
-        link_all_but(self.home / own, "toolchain", self.kit / own)
-        link_all_but(self.tools, "bin", self.kit / own / "toolchain")
-        link_all_but(self.tools / "bin", "clang", self.kit / own / "toolchain" / "bin")
-        clang = self.kit / own / "toolchain" / "bin" / "clang"
-        clang.write_text(f"#!/bin/sh\ncp module.bc '{self.scratch}/module.bc'\nexit 1\n")
-        clang.chmod(0o755)
-
-    def copy_crates(self, part):
-        copy = self.scratch / part
-        copy.mkdir()
-        shutil.copy(TOP / "crates.txt", copy)
-        for crate in below(part):
-            shutil.copytree(TOP / "crates" / crate / "src", copy / "crates" / crate / "src")
-        self.write(part, f"crates/{part}/src/lib.rt", (TOP / "crates" / part / "src" / "lib.rt").read_text())
-
-    def write(self, part, file, text):
-        """A source file of a crate's copy. The root of its program is one that has a main."""
-        path = self.scratch / part / file
-        if file == f"crates/{part}/src/lib.rt":
-            path.unlink(missing_ok=True)
-            path, text = path.with_name("main.rt"), text + "\nfn main() {}\n"
-        path.write_text(text)
-
-    def module_of(self, part):
-        """The module of a crate, as text and not optimised; none where it does not compile."""
-        module = self.scratch / "module.bc"
+    def module_by(self, words, folder, name):
+        """The module that rt hands to clang last, as text and not optimised; none where it does not come so far."""
+        module = self.scratch / f"{name}.bc"
         module.unlink(missing_ok=True)
-        said = run(["rt", "try", part], cwd=self.scratch / part, env={**os.environ, "RATTLE_HOME": self.kit})
+        said = run([self.rt, *words], cwd=folder, env={**os.environ, KEPT: str(module)})
         if not module.exists():
             print(said.stdout + said.stderr, file=sys.stderr)
             return None
         clang = [self.clang, f"--target={TRIPLE}", "-x", "ir", module]
         return must_run([*clang, "-S", "-emit-llvm", "-Xclang", "-disable-llvm-passes", "-O0", "-o", "-"])
+
+    def proved(self, part):
+        """The module of a static library of the repository, which is proved and built there."""
+        return self.module_by(["lib"], TOP / "crates" / part, part)
+
+
+class Unproved(Kit):
+    """Makes modules with no proof, with a copy of the crates for each static library. CALLS: of each the statements that call its exports."""
+
+    def __init__(self, scratch, calls):
+        super().__init__(scratch)
+        self.calls = calls
+        for part in calls:
+            self.copy_crates(part)
+
+    def copy_crates(self, part):
+        copy = self.scratch / part
+        for crate in below(part):
+            shutil.copytree(TOP / "crates" / crate / "src", copy / "crates" / crate / "src")
+        listed = (line for line in (TOP / "crates.txt").read_text().splitlines() if line.partition(":")[0].split()[:1] != ["#"])
+        rows = [line.replace(" staticlib:", ":") for line in listed if line and line.partition(":")[0].split()[0] in below(part)]
+        (copy / "crates.txt").write_text("\n".join(rows) + "\n")
+        self.write(part, f"crates/{part}/src/lib.rt", (TOP / "crates" / part / "src" / "lib.rt").read_text())
+
+    def write(self, part, file, text):
+        """A source file of a crate's copy. The root of the library is that of a program, with a main."""
+        path = self.scratch / part / file
+        if file == f"crates/{part}/src/lib.rt":
+            path.unlink(missing_ok=True)
+            path, text = path.with_name("main.rt"), f"{text}\nfn main() {{\n{self.calls[part]}}}\n"
+        path.write_text(text)
+
+    def unproved(self, part):
+        return self.module_by(["try"], self.scratch / part / "crates" / part, part)

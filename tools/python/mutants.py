@@ -9,22 +9,24 @@ out is also one whose library is byte for byte the unchanged one, as no comparis
 none can see what it answers. A driver that fails or hangs has caught a wrong answer too.
 
 The prover refuses such a library, so its crates are compiled with no proof (modules.py). The exported functions around a module, which only
-'rt staticlib' makes, are made here. The unchanged crates, built in the same way, have to agree first. All of it stands in the folder SCRATCH;
+'rt lib' makes, are made here. The unchanged crates, built in the same way, have to agree first. All of it stands in the folder SCRATCH;
 of target/ only the driver is read, and nothing is written there.
 """
 
 import functools
+import itertools
 import os
 import re
 import signal
 import subprocess
 import sys
+from concurrent.futures import ThreadPoolExecutor
 from pathlib import Path
 
 from edits import TOP, changed_code, edit_files, function_of, read_edits, read_mutants
 from header import CRATES as PARTS
 from header import ENTRY, Entry
-from modules import TRIPLE, Modules, must_run
+from modules import TRIPLE, Unproved, must_run
 from sources import below, crates
 
 QUICK = ["--count", "100000"]  # random answers a module: most often enough, as the corners are always compared
@@ -40,7 +42,7 @@ LIKELY = {
     "due": "standard", "first_kind": "standard", "lead_room": "standard", "put_lead": "standard", "either": "standard",
     "row::mode_of": "standard", "row::mode_number": "standard", "row::again_of": "standard", "row::again_number": "standard",
     "timestamp": "timestamp", "control": "control", "packet": "packet", "adaptation": "adaptation", "pes": "head", "contents": "contents",
-    "log": "machine", "machine": "machine", "writer": "writer", "pes_header": "gather", "gather": "gather",
+    "event_log": "machine", "machine": "machine", "writer": "writer", "pes_header": "gather", "gather": "gather",
 }  # fmt: skip
 
 
@@ -75,40 +77,42 @@ def show(wrongs):
 # ---- a library with no proof
 
 
-class Bench(Modules):
+class Bench(Unproved):
     """Where libraries are built: an object for each archive."""
 
     def __init__(self, scratch):
-        super().__init__(scratch, PARTS)
-        self.unchanged = {part: self.object_of(part, "unchanged") for part in PARTS}
+        super().__init__(scratch, {part: "".join(map(call, entries_of(part))) for part in PARTS})
+        self.unchanged = dict(self.objects_of(PARTS, "unchanged"))
         if None in self.unchanged.values():
             sys.exit("mutants: the unchanged crates do not compile")
 
     def object_of(self, part, name):
         """An archive's crate and the exported functions around it, as an object."""
-        module = self.module_of(part)
+        module = self.unproved(part)
         if module is None:
             return None
-        text, made = self.scratch / "library.ll", self.scratch / f"{name}.{part}.o"
+        text, made = self.scratch / f"{part}.ll", self.scratch / f"{name}.{part}.o"
         module = module.replace("define i32 @main()", "define internal i32 @unused_main()")
-        text.write_text("\n".join([module, *(exported(part, module, file) for file in sources_of(part))]))
+        text.write_text("\n".join([module, *(around(entry, module, part) for entry in entries_of(part))]))
         clang = [self.clang, f"--target={TRIPLE}", "-fPIC", "-O3", "-c", "-x", "ir", text]
         must_run([*clang, "-o", made])
         return made
 
+    def objects_of(self, parts, name):
+        """The objects of archives, made side by side."""
+        with ThreadPoolExecutor() as pool:
+            return list(zip(parts, pool.map(lambda part: self.object_of(part, name), parts)))
+
     def changed_objects(self, wrong):
-        """The objects of the archives that a wrong answer changes, one after another; none where one does not compile."""
+        """The objects of the archives that a wrong answer changes; none where one does not compile."""
         texts = wrong.made({})
-        for part in PARTS:
-            if wrong.crate not in below(part):
-                continue
-            for file, text in texts.items():
-                self.write(part, file, text)
-            made = self.object_of(part, "changed")
-            for file in texts:
-                self.write(part, file, (TOP / file).read_text())
-            if made is None or made.read_bytes() != self.unchanged[part].read_bytes():
-                yield part, made
+        parts = [part for part in PARTS if wrong.crate in below(part)]
+        for part, (file, text) in itertools.product(parts, texts.items()):
+            self.write(part, file, text)
+        objects = self.objects_of(parts, "changed")
+        for part, file in itertools.product(parts, texts):
+            self.write(part, file, (TOP / file).read_text())
+        return [(part, made) for part, made in objects if made is None or made.read_bytes() != self.unchanged[part].read_bytes()]
 
     def driver(self, objects):
         program = self.scratch / "differential"
@@ -117,40 +121,38 @@ class Bench(Modules):
 
 
 LINK = '. tools/common.sh && link_rust differential "$@"'
-RUN = '. tools/common.sh && run_x86 "$@"'
 
 
 @functools.cache
-def sources_of(part):
-    return sorted((TOP / "crates" / part / "src").glob("*.rt"))
+def entries_of(part):
+    """The exported functions of a static library."""
+    files = sorted((TOP / "crates" / part / "src").glob("*.rt"))
+    return [Entry(*found.groups(), part, file.stem) for file in files for found in ENTRY.finditer(file.read_text())]
 
 
-def exported(part, module, file):
-    """The exported functions of a source file, each around that of the module: bytes that are lent come as pointer and length."""
-    return "\n".join(around(Entry(*found.groups()), module, part) for found in ENTRY.finditer(file.read_text()))
+def call(entry):
+    """Statements that call an exported function. Nothing runs them: what they call is compiled."""
+    lets, words = [], []
+    for nth, one in enumerate(entry.parameters):
+        name = f"{entry.name}_{nth}"
+        pointer = one.slice or one.written or one.count
+        value = f"[0; {one.count or 1}]" if one.slice or one.count else "0"
+        lets += [f"    let {'mut ' if one.written else ''}{name} = {value};\n"] if pointer else []
+        words.append(f"{'&mut ' if one.written else '&'}{name}" if pointer else "0")
+    return f"{''.join(lets)}    {entry.module}::{entry.name}({', '.join(words)});\n"
 
 
 def around(entry, module, part):
+    """An exported function around that of the module: bytes that are lent come as pointer and length in both."""
     inner = re.search(rf'@"{part}::(?:\w+::)*{entry.name}"', module)[0]
-    outside, inside, lines = [], [], []
+    words = []
     for nth, one in enumerate(entry.parameters):
-        pointer = one.slice or one.written or one.count
-        word = f"{'ptr' if pointer else WORDS[one.number]} %a{nth}"
-        outside.append(word)
-        if one.slice:
-            outside.append(f"i64 %n{nth}")
-            word = f"ptr %s{nth}"
-            lines += [
-                f"%s{nth} = alloca {{ ptr, i64 }}, align 8",
-                f"store ptr %a{nth}, ptr %s{nth}, align 8",
-                f"%l{nth} = getelementptr i8, ptr %s{nth}, i64 8",
-                f"store i64 %n{nth}, ptr %l{nth}, align 8",
-            ]
-        inside.append(word)
+        words.append(f"{'ptr' if one.slice or one.written or one.count else WORDS[one.number]} %a{nth}")
+        words += [f"i64 %n{nth}"] if one.slice else []
     kind = WORDS[entry.answer] if entry.answer else "void"
-    call = f"call {kind} {inner}({', '.join(inside)})"
-    lines += [f"%r = {call}", f"ret {kind} %r"] if entry.answer else [call, "ret void"]
-    return f"define {kind} @{entry.name}({', '.join(outside)}) {{\n" + "".join(f"  {line}\n" for line in lines) + "}\n"
+    inside = f"call {kind} {inner}({', '.join(words)})"
+    lines = [f"%r = {inside}", f"ret {kind} %r"] if entry.answer else [inside, "ret void"]
+    return f"define {kind} @{entry.name}({', '.join(words)}) {{\n" + "".join(f"  {line}\n" for line in lines) + "}\n"
 
 
 # ---- the comparison
@@ -158,9 +160,8 @@ def around(entry, module, part):
 
 def first_difference(program, words):
     """What the driver first says against a library, where it ends; none where all agrees."""
-    command = ["bash", "-c", RUN, "mutants", str(program), *words]
     pipe, none = subprocess.PIPE, subprocess.DEVNULL
-    with subprocess.Popen(command, cwd=TOP, stdout=pipe, stderr=none, text=True, start_new_session=True) as driver:
+    with subprocess.Popen([str(program), *words], cwd=TOP, stdout=pipe, stderr=none, text=True, start_new_session=True) as driver:
         signal.signal(signal.SIGALRM, lambda *_: os.killpg(driver.pid, signal.SIGKILL))
         signal.alarm(LONGEST)
         said = next((line for line in driver.stdout if line.startswith("DIFFERS")), None)

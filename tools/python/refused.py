@@ -1,15 +1,18 @@
-"""Whether the prover refused each wrong answer in the proof of the function that gives it.
+"""Whether the prover refuses each wrong answer in the proof of the function that gives it.
 
-    refused.py                      those of crates/*/must-fail, by the logs that the gate has left in target/must-fail
+    refused.py                      those of crates/*/must-fail
     refused.py --check              whether their files can be tried at all, with no prover
-    refused.py --edits [CRATE..]    these and those of crates/*/must-fail-by-hand, of all crates or of those named, put before the prover here
-    refused.py --mutants [CRATE..]  those of tools/mutants.txt, put before the prover here
+    refused.py --edits [CRATE..]    these and those of crates/*/must-fail-by-hand, of all crates or of those named
+    refused.py --mutants [CRATE..]  those of tools/mutants.txt
 
-edits.py says what a file of edits holds. rt asks only that something is refused. A function is proved by the promises of those that it
-calls, never by their code, so a right function stays proved whatever they answer, and a wrong one is refused for itself: that is looked
-for here. One file has no function twice. What only follows from another refusal is no refusal, nor is a proof that does not fit the code's
-shape; where a proof is one term and rests on a refused one nothing else is said of it, and the two wrong answers have to stand in two
-files, or the proof gives its answers before it is closed: 'let answers = tie.spec .. in tie.close answers'.
+edits.py says what a file of edits holds. The gate puts the files of must-fail before the prover too, but it asks only that something is
+refused, and of what the prover says it keeps the first line. A function is proved by the promises of those that it calls, never by their
+code, so a right function stays proved whatever they answer, and a wrong one is refused for itself: that is looked for here. One file has no
+function twice. What only follows from another refusal is no refusal, nor is a proof that does not fit the code's shape: then the wrong answer
+has to be written with the same calls, loops and names, or the proof to name less.
+
+The crates are proved as they stand, and each file's changes are made in a copy of the crates outside the repository, which 'rt check' begins
+with what it has kept of them.
 """
 
 import os
@@ -18,92 +21,109 @@ import shutil
 import subprocess
 import sys
 import tempfile
+from concurrent.futures import ThreadPoolExecutor
 from pathlib import Path
 
-from edits import BY_HAND, BY_THE_GATE, TOP, changed_code, edit_files, function_of, read_edits, read_mutants
+from edits import BY_HAND, BY_THE_GATE, TOP, edit_files, function_of, changed_code, read_edits, read_mutants
 from sources import functions
 
-# What the prover says of a proof that rests on another which it has refused, and of one that was written for code of another shape: neither
-# is about the answer.
-FOLLOWS = ("was not admitted", "cannot be checked")
-SHAPE = ("has no `Need-", "has no field")
+# What the prover says of a proof that rests on another which it has refused, of one that was written for code of another shape, and where it
+# ends at a limit of its own: none of these is about the answer.
+FOLLOWS = re.compile(r"declarations? that depends? on .* not checked|was not admitted|cannot be checked")
+SHAPE = re.compile(r"has no field|has no `|is not in scope")
+LIMIT = re.compile(r"antt ran out of|outgrew the memory limit|stopped at the step limit")
+MEMORY = 4 << 20  # KiB that a check may take
 
 
 # ---- what the prover said
 
 
-def own_refusal(log, crate, dies, passed_over=FOLLOWS + SHAPE):
+def own_refusal(log, crate, dies, *passed_over):
     """What the prover first said against the proof of a function, or against a file under proofs/; None where nothing but what is passed
     over."""
-    place = f"proofs/{dies}" if dies.endswith(".antt") else f"proofs/{dies.replace('::', '/')}/Proof.antt"
+    answers = [dies] if dies.endswith(".antt") else [f"{dies.replace('::', '/')}/{name}.antt" for name in ("Answers", "Proof")]
+    places = {f"./proofs/{name}" for name in answers}
     for line in log.splitlines():
         where, found, said = line.partition(": error: ")
-        if found and re.sub(r":\d+:\d+$", "", where).endswith("/" + place) and not any(text in said for text in passed_over):
+        if found and re.sub(r":\d+:\d+$", "", where) in places and not any(pattern.search(said) for pattern in passed_over):
             return said
-        # A proof that the prover makes by itself, and no longer finds.
-        if line.startswith(f"fn {crate}::{dies}: no proof") and "does not close" in line:
-            return line.partition("; ")[2]
+        # a goal that no file answers, and that the prover's own search does not prove
+        if line.startswith(f"fn {crate}::{dies}: no proof: ") and "`search` did not prove `" in line:
+            return line.partition(": no proof: ")[2]
     return None
 
 
-def judge(crate, where, wrongs, log, telling):
-    """How many of the wrong answers were refused, each in its own proof. Says which were not, and where TELLING what was found."""
-    refused = 0
+def not_tried(log):
+    """Why nothing was put before the prover, if that is so: the changed sources cannot be read."""
+    said = re.search(r"^.*\berror\[[\w-]+\].*$", log, re.M)
+    return said[0] if said else None
+
+
+def judge(crate, where, wrongs, log):
+    """How many of the wrong answers were refused, each in its own proof, and the lines that say so of each."""
+    refused, lines = 0, []
     for wrong in wrongs:
-        said = wrong.dies and own_refusal(log, crate, wrong.dies)
+        said = wrong.dies and own_refusal(log, crate, wrong.dies, FOLLOWS, SHAPE, LIMIT)
         if said:
             refused += 1
-            if telling:
-                print(f"{crate}/{wrong.name}: refused in {wrong.dies}: {said[:90]}")
-        elif wrong.dies and own_refusal(log, crate, wrong.dies, FOLLOWS):
-            print(f"{crate}/{wrong.name}: REFUSED FOR ITS SHAPE ALONE, in {wrong.dies} ({where})")
+            lines.append(f"{crate}/{wrong.name}: refused in {wrong.dies}: {said[:90]}")
+        elif wrong.dies and own_refusal(log, crate, wrong.dies, FOLLOWS, LIMIT):
+            lines.append(f"{crate}/{wrong.name}: REFUSED FOR ITS SHAPE ALONE, in {wrong.dies} ({where})")
         else:
-            print(f"{crate}/{wrong.name}: NOT REFUSED by the proof of {wrong.dies} ({where})")
-    sys.stdout.flush()
-    return refused
+            lines.append(f"{crate}/{wrong.name}: NOT REFUSED by the proof of {wrong.dies} ({where})")
+    if refused < len(wrongs) and not_tried(log):
+        lines.append(f"{crate}: {where} cannot be read: {not_tried(log)[:160]}")
+    return refused, lines
 
 
-def verdict(tried, refused):
-    print(f"{tried} wrong answers, {refused} refused, each in the proof of its own function")
-    return 0 < tried == refused
+# ---- put before the prover
 
 
-def check_gate():
-    tried = refused = 0
-    for crate, path in edit_files(folders=[BY_THE_GATE]):
-        wrongs = read_edits(path)
-        log = TOP / "target" / "must-fail" / crate / path.stem / ".log"
-        tried += max(1, len(wrongs))
-        refused += judge(crate, path.name, wrongs, log.read_text() if log.exists() else "", telling=False)
-    return verdict(tried, refused)
+def at_a_time():
+    """How many checks go side by side."""
+    memory = int(re.search(r"^MemAvailable:\s+(\d+)", Path("/proc/meminfo").read_text(), re.M)[1])
+    return max(1, min(len(os.sched_getaffinity(0)), memory // MEMORY))
 
 
-# ---- put before the prover here
+def prove(crates):
+    """Proves these crates as they stand, or all: a wrong answer of a crate that is not proved shows nothing."""
+    log = TOP / "target" / "refused.log"
+    log.parent.mkdir(exist_ok=True)
+    runs = [(TOP / "crates" / crate, ["rt", "check"]) for crate in crates]
+    for folder, words in runs or [(TOP / "crates", ["rt", "all", "check", "--jobs", str(at_a_time())])]:
+        with log.open("w") as said:
+            done = subprocess.run(words, cwd=folder, stdin=subprocess.DEVNULL, stdout=said, stderr=subprocess.STDOUT)
+        if done.returncode:
+            sys.exit(f"refused: '{' '.join(words)}' in {folder.relative_to(TOP)} failed; {log} has what it said")
 
 
-def prove_with(crate, wrongs, copy):
+def check_with(crate, wrongs):
     """What the prover says of the crate with all these changes made, one after another."""
     texts = {}
     for wrong in wrongs:
         texts = wrong.made(texts)
-    for file, text in texts.items():
-        (copy / file).write_text(text)
-    done = subprocess.run(["rt", "dev", crate], cwd=copy, capture_output=True, text=True, env={**os.environ, "RT_CUT": "0"})
-    for file in texts:
-        shutil.copy(TOP / file, copy / file)
-    return done.stdout + done.stderr
+    with tempfile.TemporaryDirectory(prefix="clomaverift-") as scratch:
+        copy = Path(scratch)
+        shutil.copy(TOP / "crates.txt", copy)
+        shutil.copytree(TOP / "crates", copy / "crates", ignore=shutil.ignore_patterns("out", BY_THE_GATE, BY_HAND))
+        for file, text in texts.items():
+            (copy / file).write_text(text)
+        how = {"stdin": subprocess.DEVNULL, "stdout": subprocess.PIPE, "stderr": subprocess.STDOUT, "text": True, "errors": "replace"}
+        return subprocess.run(["rt", "check", "--jobs", "1"], cwd=copy / "crates" / crate, **how).stdout
 
 
-def check_here(copies):
-    """COPIES: crate, where they stand, wrong answers that can be told apart."""
+def check_here(copies, telling):
+    """COPIES: crate, where they stand, wrong answers that can be told apart. Says which are refused, where TELLING, and which are not."""
     tried = refused = 0
-    with tempfile.TemporaryDirectory() as scratch:
-        copy = Path(scratch) / "copy"
-        shutil.copytree(TOP, copy, ignore=shutil.ignore_patterns(".git", BY_THE_GATE, BY_HAND, "rust"))
-        for crate, where, wrongs in copies:
-            tried += len(wrongs)
-            refused += judge(crate, where, wrongs, prove_with(crate, wrongs, copy), telling=True)
-    return verdict(tried, refused)
+    with ThreadPoolExecutor(at_a_time()) as pool:
+        logs = [pool.submit(check_with, crate, wrongs) for crate, _, wrongs in copies]
+        for (crate, where, wrongs), log in zip(copies, logs):
+            found, lines = judge(crate, where, wrongs, log.result())
+            tried, refused = tried + max(1, len(wrongs)), refused + found
+            print("\n".join([line for line in lines if telling or ": refused in " not in line] + [f"{crate}: {where}: {found} of {len(wrongs)}"]))
+            sys.stdout.flush()
+    print(f"{tried} wrong answers, {refused} refused, each in the proof of its own function")
+    return 0 < tried == refused
 
 
 def rounds(wrongs):
@@ -128,6 +148,10 @@ def mutant_copies(names):
     for crate in {wrong.crate: None for wrong in wrongs}:
         for number, some in enumerate(rounds([wrong for wrong in wrongs if wrong.crate == crate and wrong.dies]), 1):
             yield crate, f"copy {number}", some
+
+
+def edit_copies(names, folders):
+    return [(crate, f"{path.parent.name}/{path.name}", read_edits(path)) for crate, path in edit_files(names, folders)]
 
 
 # ---- whether the files can be tried
@@ -193,11 +217,12 @@ def main(words):
         return False
     if words == ["--check"]:
         return True
-    if words[:1] == ["--edits"]:
-        return check_here([(crate, path.name, read_edits(path)) for crate, path in edit_files(words[1:])])
     if words[:1] == ["--mutants"]:
-        return check_here(list(mutant_copies(words[1:])))
-    return check_gate()
+        copies = list(mutant_copies(words[1:]))
+    else:
+        copies = edit_copies(words[1:], [BY_THE_GATE, BY_HAND] if words else [BY_THE_GATE])
+    prove(dict.fromkeys(crate for crate, *_ in copies) if words[1:] else [])
+    return check_here(copies, telling=bool(words))
 
 
 if __name__ == "__main__":

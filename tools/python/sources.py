@@ -13,11 +13,21 @@ PRIVATE = "-- ---- cited by private functions alone"  # what a reader of a file 
 
 
 @functools.cache
+def rows():
+    """The rows of crates.txt: of each crate the words after its name, which say of what kind it is, and those that it is built on."""
+    lines = [line for line in (TOP / "crates.txt").read_text().splitlines() if line and not line.startswith("#")]
+    return {words.split()[0]: (words.split()[1:], rest.split()) for words, _, rest in (line.partition(":") for line in lines)}
+
+
+@functools.cache
 def crates():
     """The crates in the order of crates.txt, each with the crates that it is built on."""
-    lines = [line for line in (TOP / "crates.txt").read_text().splitlines() if line and not line.startswith("#")]
-    listed = {name: rest.split() for name, _, rest in (line.partition(":") for line in lines)}
-    return {name: [one for one in built_on if one in listed] for name, built_on in listed.items()}
+    return {name: [one for one in built_on if one in rows()] for name, (_, built_on) in rows().items()}
+
+
+def exports_of(crate):
+    """The library whose functions a static library exports, of a crate that is one: NAME of NAME_c. None of any other crate."""
+    return crate.removesuffix("_c") if "staticlib" in rows()[crate][0] else None
 
 
 @functools.cache
@@ -70,8 +80,17 @@ def functions(crate):
 
 @functools.cache
 def public_functions(crate):
-    """Those that another crate can call."""
-    return {} if crate in PROGRAMS else {name: one for name, one in functions(crate).items() if one.public}
+    """Those that another crate can call. Those of a static library are the same functions of another crate, for C (`unlike`)."""
+    return {} if crate in PROGRAMS or exports_of(crate) else {name: one for name, one in functions(crate).items() if one.public}
+
+
+def unlike(crate):
+    """The public functions of a static library that are not, by module, name, parameters and promise, those of the crate that it exports, and
+    the public functions of that crate's modules `of_..` that it does not export."""
+    plain = {name: " ".join(one.head.replace('extern "C" ', "").split()) for name, one in functions(crate).items() if one.public}
+    meant = {name: " ".join(one.head.split()) for name, one in public_functions(exports_of(crate)).items()}
+    exported = {name for name in meant if name.startswith("of_") and name.rpartition("::")[2].startswith("cmv_")}
+    return sorted({name for name in plain if plain[name] != meant.get(name)} | (exported - set(plain)))
 
 
 @functools.cache
@@ -84,7 +103,7 @@ def called(crate):
 # ---- definitions and proofs
 
 
-DECLARED = re.compile(r"^ *(?:(?:abbrev|unfoldable|pub) )*(?:(?:record|data|ruleset) (\S+)|([^\s(){}:;,.]+)(?: \{\S+\})* :)", re.M)
+DECLARED = re.compile(r"^ *(?:(?:abbrev|unfoldable|pub) )*(?:(?:record|data|ruleset) (\S+)|([^\s(){}:;,.]+)(?: \{[^{}\n]+\})* :)", re.M)
 IMPORTED = re.compile(r"^(?:ghost )?use \S+?\.\{([^}]*)\}", re.M)
 
 
@@ -97,6 +116,7 @@ def specs(crate):
 
 
 def proofs(crate):
+    """All files under proofs/: those of lemmas, which stand right in it, and those of functions."""
     return sorted((TOP / "crates" / crate / "proofs").glob("**/*.antt"))
 
 
@@ -108,8 +128,9 @@ def definitions(crate):
 
 @functools.cache
 def theorems(crate):
-    """The names that the files of proofs/ declare."""
-    return set().union(*(declared(path.read_text()) for path in proofs(crate)))
+    """The names that the files of lemmas declare. Those in a function's files are the prover's names of its goals."""
+    lemmas = [path for path in proofs(crate) if path.parent.name == "proofs"]
+    return set().union(*(declared(path.read_text()) for path in lemmas))
 
 
 @functools.cache
