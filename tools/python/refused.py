@@ -8,13 +8,18 @@
 edits.py says what a file of edits holds. The gate puts the files of must-fail before the prover too, but it asks only that something is
 refused, and of what the prover says it keeps the first line. A function is proved by the promises of those that it calls, never by their
 code, so a right function stays proved whatever they answer, and a wrong one is refused for itself: that is looked for here. One file has no
-function twice. What only follows from another refusal is no refusal, nor is a proof that does not fit the code's shape: then the wrong answer
-has to be written with the same calls, loops and names, or the proof to name less.
+function twice. What only follows from another refusal is no refusal, nor is a proof that does not fit the code's shape.
+
+The prover names a goal after the code that it is about, as 'returns-then-count-lt16', and a function's Answers.antt answers it under that
+name. So where a wrong answer is a change of such a condition, its goals have other names, and no answer is put to them. Then the file is
+tried once more, and each answer whose goal is gone is given to the goal without an answer that is named most like it: the proof of the right
+code, put to the wrong code. What is still refused for its shape alone has to be written with the same calls, loops and names.
 
 The crates are proved as they stand, and each file's changes are made in a copy of the crates outside the repository, which 'rt check' begins
 with what it has kept of them.
 """
 
+import difflib
 import os
 import re
 import shutil
@@ -33,6 +38,9 @@ FOLLOWS = re.compile(r"declarations? that depends? on .* not checked|was not adm
 SHAPE = re.compile(r"has no field|has no `|is not in scope")
 LIMIT = re.compile(r"antt ran out of|outgrew the memory limit|stopped at the step limit")
 MEMORY = 4 << 20  # KiB that a check may take
+# A goal that has no answer, in the lines before that of its function; and an answer whose goal is gone.
+ASKED = re.compile(r"^note: src/\S+ it is not proved that .* \(`([^`]+)`\)", re.M)
+LOST = re.compile(r"error: `([^`]+)`: `goal\.\1`: module `\S+` has no `\1`")
 
 
 # ---- what the prover said
@@ -59,20 +67,44 @@ def not_tried(log):
     return said[0] if said else None
 
 
-def judge(crate, where, wrongs, log):
-    """How many of the wrong answers were refused, each in its own proof, and the lines that say so of each."""
+def for_shape_alone(log, wrong):
+    own = wrong.dies and not own_refusal(log, wrong.crate, wrong.dies, FOLLOWS, SHAPE, LIMIT)
+    return bool(own and own_refusal(log, wrong.crate, wrong.dies, FOLLOWS, LIMIT))
+
+
+def asked(log, crate, dies):
+    """The goals of a function that the prover has no answer to."""
+    before, found, _ = log.partition(f"\nfn {crate}::{dies}: ")
+    return ASKED.findall(re.split(r"\n(?:fn|struct|enum) ", before)[-1]) if found else []
+
+
+def readdressed(text, log, crate, dies):
+    """The answers of a function, each one whose goal is gone under the name of the goal that is asked and named most like it."""
+    blocks = re.split(r"\n{2,}", text.rstrip("\n"))
+    place = f"./proofs/{dies.replace('::', '/')}/Answers.antt:"
+    lost = {name for line in log.splitlines() if line.startswith(place) for name in LOST.findall(line)}
+    old = {name: block for name in lost for block in blocks if re.search(rf"^(?:pub )?{re.escape(name)} :", block, re.M)}
+    kept = [block for block in blocks if block not in old.values()]
+    for goal in asked(log, crate, dies) if old else []:
+        name = max(sorted(old), key=lambda one: difflib.SequenceMatcher(None, one, goal).ratio())
+        kept.append(re.sub(rf"(?<![\w'-]){re.escape(name)}(?![\w'-])", goal, old[name]))
+    return "\n\n".join(kept) + "\n"
+
+
+def judge(crate, where, wrongs, logs):
+    """How many of the wrong answers were refused, each in its own proof, and the lines that say so of each. LOGS: that of each wrong answer."""
     refused, lines = 0, []
-    for wrong in wrongs:
+    for wrong, log in zip(wrongs, logs):
         said = wrong.dies and own_refusal(log, crate, wrong.dies, FOLLOWS, SHAPE, LIMIT)
         if said:
             refused += 1
             lines.append(f"{crate}/{wrong.name}: refused in {wrong.dies}: {said[:90]}")
-        elif wrong.dies and own_refusal(log, crate, wrong.dies, FOLLOWS, LIMIT):
+        elif for_shape_alone(log, wrong):
             lines.append(f"{crate}/{wrong.name}: REFUSED FOR ITS SHAPE ALONE, in {wrong.dies} ({where})")
         else:
             lines.append(f"{crate}/{wrong.name}: NOT REFUSED by the proof of {wrong.dies} ({where})")
-    if refused < len(wrongs) and not_tried(log):
-        lines.append(f"{crate}: {where} cannot be read: {not_tried(log)[:160]}")
+    if refused < len(wrongs) and not_tried(logs[0]):
+        lines.append(f"{crate}: {where} cannot be read: {not_tried(logs[0])[:160]}")
     return refused, lines
 
 
@@ -97,11 +129,16 @@ def prove(crates):
             sys.exit(f"refused: '{' '.join(words)}' in {folder.relative_to(TOP)} failed; {log} has what it said")
 
 
-def check_with(crate, wrongs):
-    """What the prover says of the crate with all these changes made, one after another."""
+def changed(wrongs):
+    """The texts of the files that these wrong answers change, one after another."""
     texts = {}
     for wrong in wrongs:
         texts = wrong.made(texts)
+    return texts
+
+
+def check_with(crate, texts):
+    """What the prover says of the crate with these texts in place of its own."""
     with tempfile.TemporaryDirectory(prefix="clomaverift-") as scratch:
         copy = Path(scratch)
         shutil.copy(TOP / "crates.txt", copy)
@@ -112,11 +149,24 @@ def check_with(crate, wrongs):
         return subprocess.run(["rt", "check", "--jobs", "1"], cwd=copy / "crates" / crate, **how).stdout
 
 
+def logs_of(crate, wrongs):
+    """What the prover says of the crate with all these wrong answers in it, for each of them."""
+    texts = changed(wrongs)
+    log = check_with(crate, texts)
+    answers = {}
+    for wrong in wrongs:
+        path = f"crates/{crate}/proofs/{(wrong.dies or '').replace('::', '/')}/Answers.antt"
+        if for_shape_alone(log, wrong) and (TOP / path).is_file():
+            answers[path] = readdressed(texts.get(path) or (TOP / path).read_text(), log, crate, wrong.dies)
+    again = check_with(crate, {**texts, **answers}) if answers else log
+    return [again if for_shape_alone(log, wrong) else log for wrong in wrongs]
+
+
 def check_here(copies, telling):
     """COPIES: crate, where they stand, wrong answers that can be told apart. Says which are refused, where TELLING, and which are not."""
     tried = refused = 0
     with ThreadPoolExecutor(at_a_time()) as pool:
-        logs = [pool.submit(check_with, crate, wrongs) for crate, _, wrongs in copies]
+        logs = [pool.submit(logs_of, crate, wrongs) for crate, _, wrongs in copies]
         for (crate, where, wrongs), log in zip(copies, logs):
             found, lines = judge(crate, where, wrongs, log.result())
             tried, refused = tried + max(1, len(wrongs)), refused + found
