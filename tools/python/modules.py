@@ -7,7 +7,6 @@ It stands in a copy of the Rattle toolchain's links, whose clang keeps the modul
   calls every export. The module has tests of its own, at which what no proof allows ends the program, as a sum that wraps.
 """
 
-import os
 import shutil
 import subprocess
 import sys
@@ -17,13 +16,12 @@ from edits import TOP
 from sources import below
 
 TRIPLE = "x86_64-unknown-linux-gnu"  # what the toolchain compiles for
-KEPT = "CLOMAVERIFT_MODULE"  # names the file in which clang keeps its module
 
 # The program that 'rt try' runs is the one that it compiles with an address sanitizer; it is not to be run.
-CLANG = f"""#!/bin/sh
-cp module.bc "${KEPT}"
+CLANG = """#!/bin/sh
+cp module.bc '{kept}'
 case " $* " in *" -fsanitize=address "*) exit 1 ;; esac
-exec '%s' "$@"
+exec '{clang}' "$@"
 """
 
 
@@ -48,13 +46,12 @@ def link_all_but(folder, entries, new):
 
 
 class Kit:
-    """The copy of the toolchain's links, in a folder."""
+    """The copy of the toolchain's links, in a new folder."""
 
-    def __init__(self, scratch):
-        self.scratch = scratch
+    def __init__(self, kit):
         home = Path(must_run(["rt", "doc"]).strip()).parent
         self.clang = home / "toolchain" / "bin" / "clang"
-        kit = scratch / "kit"
+        self.kept = kit / "module.bc"
         link_all_but(home, ["bin", "toolchain"], kit)
         # rt finds the toolchain by its own place, beyond links
         link_all_but(home / "bin", ["rt", "rtlib.py"], kit / "bin")
@@ -63,32 +60,32 @@ class Kit:
         link_all_but(home / "toolchain", ["bin"], kit / "toolchain")
         link_all_but(self.clang.parent, ["clang"], kit / "toolchain" / "bin")
         own = kit / "toolchain" / "bin" / "clang"
-        own.write_text(CLANG % self.clang)
+        own.write_text(CLANG.format(kept=self.kept, clang=self.clang))
         own.chmod(0o755)
         self.rt = kit / "bin" / "rt"
 
-    def module_by(self, words, folder, name):
+    def module_by(self, verb, folder):
         """The module that rt hands to clang last, as text and not optimised; none where it does not come so far."""
-        module = self.scratch / f"{name}.bc"
-        module.unlink(missing_ok=True)
-        said = run([self.rt, *words], cwd=folder, env={**os.environ, KEPT: str(module)})
-        if not module.exists():
+        self.kept.unlink(missing_ok=True)
+        said = run([self.rt, verb], cwd=folder)
+        if not self.kept.exists():
             print(said.stdout + said.stderr, file=sys.stderr)
             return None
-        clang = [self.clang, f"--target={TRIPLE}", "-x", "ir", module]
+        clang = [self.clang, f"--target={TRIPLE}", "-x", "ir", self.kept]
         return must_run([*clang, "-S", "-emit-llvm", "-Xclang", "-disable-llvm-passes", "-O0", "-o", "-"])
 
     def proved(self, part):
         """The module of a static library of the repository, which is proved and built there."""
-        return self.module_by(["lib"], TOP / "crates" / part, part)
+        return self.module_by("lib", TOP / "crates" / part)
 
 
-class Unproved(Kit):
-    """Makes modules with no proof, with a copy of the crates for each static library. CALLS: of each the statements that call its exports."""
+class Unproved:
+    """Makes modules with no proof, with a copy of the crates and of the kit for each static library. CALLS: of each the statements that call its
+    exports."""
 
     def __init__(self, scratch, calls):
-        super().__init__(scratch)
-        self.calls = calls
+        self.scratch, self.calls = scratch, calls
+        self.kits = {part: Kit(scratch / f"{part}.kit") for part in calls}
         for part in calls:
             self.copy_crates(part)
 
@@ -110,4 +107,4 @@ class Unproved(Kit):
         path.write_text(text)
 
     def unproved(self, part):
-        return self.module_by(["try"], self.scratch / part / "crates" / part, part)
+        return self.kits[part].module_by("try", self.scratch / part / "crates" / part)

@@ -94,7 +94,7 @@ class Bench(Unproved):
         text, made = self.scratch / f"{part}.ll", self.scratch / f"{name}.{part}.o"
         module = module.replace("define i32 @main()", "define internal i32 @unused_main()")
         text.write_text("\n".join([module, *(around(entry, module, part) for entry in entries_of(part))]))
-        clang = [self.clang, f"--target={TRIPLE}", "-fPIC", "-O3", "-c", "-x", "ir", text]
+        clang = [self.kits[part].clang, f"--target={TRIPLE}", "-fPIC", "-O3", "-c", "-x", "ir", text]
         must_run([*clang, "-o", made])
         return made
 

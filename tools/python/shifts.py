@@ -44,7 +44,7 @@ def compiled(kit, text, target, *words):
 
 def look_at(kit, part, functions):
     """Whether a library's functions need neither, for each target; says what they need."""
-    text = kit.scratch / f"{part}.ll"
+    text = kit.kept.with_name(f"{part}.ll")
     module, lacking = kept(kit.proved(part) or "", functions)
     text.write_text(module)
     needed = [f"{name} is not in the module of {part}" for name in lacking]
@@ -60,7 +60,7 @@ def look_at(kit, part, functions):
 
 
 def main(scratch):
-    kit = Kit(Path(scratch))
+    kit = Kit(Path(scratch) / "kit")
     return all([look_at(kit, *part) for part in FUNCTIONS.items()])
 
 
