@@ -552,7 +552,7 @@ pub struct Entries {
 
 impl Entries {
     pub fn new() -> Entries {
-        Entries { tally: Tally::new("log::entry_at", &[0, 14]), log: Lent::new(LONGEST_LOG) }
+        Entries { tally: Tally::new("event_log::entry_at", &[0, 14]), log: Lent::new(LONGEST_LOG) }
     }
 
     /// Reads an entry; what it is to be the driver decodes itself.

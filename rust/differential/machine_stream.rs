@@ -167,7 +167,7 @@ impl Walk {
         Walk {
             step: Tally::new(&format!("machine::step, {name}"), step),
             runs: Runs::new(&format!("machine::run, {name}"), [run, ended]),
-            entry_at: Tally::new(&format!("log::entry_at, {name}"), entry_at),
+            entry_at: Tally::new(&format!("event_log::entry_at, {name}"), entry_at),
             packets: Lent::new(most * SIZE),
             step_log: Lent::new(STEP_LOG),
             log: Lent::new(log),

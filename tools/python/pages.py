@@ -6,7 +6,7 @@ import re
 from sources import TOP, below, called, crates, definitions, functions, imported, theorems
 
 # words in backticks that no crate declares: those of the language
-LANGUAGE = {"abbrev", "ensures", "now", "requires", "unfoldable"}
+LANGUAGE = {"abbrev", "ensures", "new", "now", "old", "requires", "result", "unfoldable"}
 # a path of the repository; a part of it in capitals stands for any name
 PLACE = re.compile(r"(?<![\w./-])(?:crates|docs|include|rust|samples|tools)/[\w./-]*\w")
 SECTION = re.compile(r'(docs/\w+\.md), "([^"]+)"')
@@ -87,12 +87,14 @@ def known(crate):
 
 
 def is_known(name, context):
-    """NAME of a crate of the context, or CRATE::NAME, a function, or CRATE.NAME, a definition or a theorem."""
+    """NAME of a crate of the context, or CRATE::NAME, a function, or CRATE.NAME, a definition or a theorem; or a field of the result."""
     first, mark, rest = name.partition("::" if "::" in name else ".")
     if mark == "::" and first in crates():
         return bool(find_functions(first, rest))
     if mark == "::":
         return any(find_functions(one, name) for crate in context for one in below(crate))
+    if first == "result":
+        return True
     if mark:
         return first in crates() and rest in theorems(first).union(*definitions(first).values())
     return name in LANGUAGE or name in crates() or any(name in known(crate) for crate in context)

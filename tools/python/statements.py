@@ -16,7 +16,7 @@ from sources import TOP, crates, public_functions, wrong_answers
 
 FUNCTIONS = ["function", "promise", "one answer", "rules out", "edit"]
 RULES = ["rule", "rules out", "edit"]
-WORD = re.compile(r"[^\s(),;:.∷≡⌜⌝{}\[\]]+")  # of a promise
+WORD = re.compile(r"[^\s(),;:.∷≡{}\[\]]+")  # of a promise
 NAME = re.compile(r"\b[a-z][a-z0-9]*(?:_[a-z0-9]+)+\b")  # outside backticks: a wrong answer
 
 
@@ -39,7 +39,7 @@ def look_at_promise(page, at, crate, name, words):
     for chunk in quoted(words[2]):
         if chunk.endswith("≡") and chunk not in head:
             page.fault(at, f"the promise of {crate}::{name} has no `{chunk}`")
-    if "at exit is an equation" in words[2] and ".exit) ≡" not in head:
+    if "at exit is an equation" in words[2] and ".new ≡" not in head:
         page.fault(at, f"the promise of {crate}::{name} has no equation for what is lent")
     if "requires" in head:
         page.fault(at, f"{crate}::{name} has a `requires`")
