@@ -48,10 +48,10 @@ use Rattle.bounds.proofs.Theorems.{run_ends}
 
 -- ---- the packets
 
-start_of : (b : Bool) (c : ℕ) → start_flag (eventful b c) ≡ b
+start_of_lem : (b : Bool) (c : ℕ) → start_flag (eventful b c) ≡ b
 unfolding start_flag bit eventful
-start_of true c = refl
-start_of false c = refl
+start_of_lem true c = refl
+start_of_lem false c = refl
 
 all_same : (P : ℕ → Type 0) (n x : ℕ) → P x → All P (replicate n x)
 all_same P zero x h = tt
@@ -113,8 +113,8 @@ module _ (b : Bool) (c : ℕ) where
 abbrev Going : ℕ → State → Type 0
 Going c s = (s.phase ≡ Started) × (left_in s ≡ 0) × (s.last ≡ At (as_counter (c % 16)))
 
-last_of : (b : Bool) (c : ℕ) (s : State) → (next s (eventful b c)).last ≡ At (as_counter (c % 16))
-last_of b c s = last-is s (eventful b c) ∙ ap (λ (n : ℕ). At (as_counter n)) (counter-of b c)
+last_of_lem : (b : Bool) (c : ℕ) (s : State) → (next s (eventful b c)).last ≡ At (as_counter (c % 16))
+last_of_lem b c s = last-is s (eventful b c) ∙ ap (λ (n : ℕ). At (as_counter n)) (counter-of b c)
 
 module _ (b : Bool) (c : ℕ) (s : State) (g : Going c s) where
   abbrev this : List ℕ
@@ -128,14 +128,14 @@ module _ (b : Bool) (c : ℕ) (s : State) (g : Going c s) where
 
   events-on : (i : ℕ) → length (events_of i s this) ≡ pick b 2 1
   unfolding announcement
-  events-on i = rw (events-are i s this, (none_left s this g.1).0, goes, start_of b (suc c), g.0) (go b)
+  events-on i = rw (events-are i s this, (none_left s this g.1).0, goes, start_of_lem b (suc c), g.0) (go b)
     where
       go : (t : Bool) → length (pick t (ended Started i ++ begun i this) (continued Started i this)) ≡ pick t 2 1
       go true = omega (arith, begun-of b (suc c) i)
       go false = continued-of b (suc c) i
 
   going_on : Going (suc c) (next s this)
-  going_on = (phase-then s this ∙ rw (goes, start_of b (suc c), g.0) (pick_same b Started), (none_left s this g.1).1, last_of b (suc c) s)
+  going_on = (phase-then s this ∙ rw (goes, start_of_lem b (suc c), g.0) (pick_same b Started), (none_left s this g.1).1, last_of_lem b (suc c) s)
 
 going-run : (s n c i : ℕ) (t : State) → Going c t → length (run i t (reaching s n (suc c))) ≡ 2 * s + n
 unfolding reaching run
@@ -162,8 +162,8 @@ reaching-length (suc s) n c = omega (arith, reaching-length s n (suc c))
 reaching-starts : (s n c : ℕ) → start_flags (reaching s n c) ≡ s
 unfolding reaching
 reaching-starts zero zero c = refl
-reaching-starts zero (suc n) c = rw (start_of false c) (omega (arith, reaching-starts zero n (suc c)))
-reaching-starts (suc s) n c = rw (start_of true c) (omega (arith, reaching-starts s n (suc c)))
+reaching-starts zero (suc n) c = rw (start_of_lem false c) (omega (arith, reaching-starts zero n (suc c)))
+reaching-starts (suc s) n c = rw (start_of_lem true c) (omega (arith, reaching-starts s n (suc c)))
 
 reaching-all : (P : List ℕ → Type 0) → ((b : Bool) (c : ℕ) → P (eventful b c)) → (s n c : ℕ) → All P (reaching s n c)
 unfolding reaching
@@ -175,7 +175,7 @@ reaching-all P h (suc s) n c = (h true c, reaching-all P h s n (suc c))
 
 module _ (c i k : ℕ) (t : State) (h : calls (continuity t (eventful true c)) true ≡ true) (e : length (events_of i t (eventful true c)) ≡ k) where
   started-going : Going c (next t (eventful true c))
-  started-going = let q = started-next t (eventful true c) (start_of true c) h in (q.0, q.1, last_of true c t)
+  started-going = let q = started-next t (eventful true c) (start_of_lem true c) h in (q.0, q.1, last_of_lem true c t)
 
   started-run : (s n : ℕ) → length (run i t (reaching (suc s) n c)) ≡ k + (2 * s + n)
   unfolding reaching run
@@ -204,7 +204,7 @@ module _ (mo : Mode) where
 
   first-events : length (events_of 0 (first mo) (eventful true 0)) ≡ 2
   unfolding announcement announces
-  first-events = rw (events-are 0 (first mo) (eventful true 0), first_goes, start_of true 0) (go mo)
+  first-events = rw (events-are 0 (first mo) (eventful true 0), first_goes, start_of_lem true 0) (go mo)
     where
       go : (mo : Mode) → length (announcement (due mo GoesOn Begin false true) 0 ++ begun 0 (eventful true 0)) ≡ 2
       go Crate = omega (arith, begun-of true 0 0)
@@ -245,10 +245,10 @@ module _ (i : ℕ) (r : Repeat) where
   three Standard false Nothing IgnoreRest h = absurd (omega arith)
   three Standard false Nothing Started h =
       let e = on-first Standard Nothing r (eventful true 0) refl in
-      rw (events-are i (state Standard Started Nothing r false) (eventful true 0), e, start_of true 0) (refl, omega (arith, begun-of true 0 i))
+      rw (events-are i (state Standard Started Nothing r false) (eventful true 0), e, start_of_lem true 0) (refl, omega (arith, begun-of true 0 i))
   three Standard false (At c) ph h =
       let n = c.val + 2 in
-      rw (events-are i (state Standard ph (At c) r false) (eventful true n), breaks true c.val r, start_of true n) (refl, omega (arith, begun-of true n i))
+      rw (events-are i (state Standard ph (At c) r false) (eventful true n), breaks true c.val r, start_of_lem true n) (refl, omega (arith, begun-of true n i))
 
 -- SO `more` ALLOWS NO ENTRY TOO MANY
 pub reached-late : (i : ℕ) (t : State) (s p : ℕ) → more_in t ≡ 1 → 1 ≤ s → s ≤ p → Reaches t i p s (p + s + 1) (late t.last s p)

@@ -173,8 +173,8 @@ parts-length ps (e ∷ es) h =
 
 -- ---- a header with a unit's fields is at least as long as the unit's
 
-abbrev number_of : Answer → ℕ
-number_of a = a.number
+abbrev number_of_lem : Answer → ℕ
+number_of_lem a = a.number
 
 abbrev kind-of : Answer → ℕ
 kind-of a = get_or a.values 0 0
@@ -183,7 +183,7 @@ module _ (c : List ℕ) (h : Accepted c) where
   -- a field that is read has its flag
   flag-on : (i : ℕ) (a : Answer) → (flagged i c a).number ≡ 0 → bit c i ≡ 1
   unfolding flagged
-  flag-on i a e = eqb-true (bit c i) 1 (go (flag c i) (ap number_of (sym (h.is _)) ∙ e))
+  flag-on i a e = eqb-true (bit c i) 1 (go (flag c i) (ap number_of_lem (sym (h.is _)) ∙ e))
     where
       go : (b : Bool) → (pick (not b) (answer 9 []) a).number ≡ 0 → b ≡ true
       go true z = refl
@@ -191,11 +191,11 @@ module _ (c : List ℕ) (h : Accepted c) where
 
   field-takes : (i : ℕ) (a : Answer) (f : Field) → flagged i c a ≡ written_field f → field_flag f ≤ bit c i
   field-takes i a absent e = omega arith
-  field-takes i a (holds v) e = omega (arith, flag-on i a (ap number_of e))
+  field-takes i a (holds v) e = omega (arith, flag-on i a (ap number_of_lem e))
 
   escr-takes : (a : Answer) (f : Escr) → flagged 10 c a ≡ written_escr f → escr_flag f ≤ bit c 10
   escr-takes a Escr.Absent e = omega arith
-  escr-takes a (Escr.Present b x) e = omega (arith, flag-on 10 a (ap number_of e))
+  escr-takes a (Escr.Present b x) e = omega (arith, flag-on 10 a (ap number_of_lem e))
 
   -- PTS_DTS_flags by the kind that is read
   times-by : (p d : Bool) (v w : List ℕ) (k : ℕ)
@@ -218,11 +218,11 @@ module _ (c : List ℕ) (h : Accepted c) where
   times-takes Untimed e = omega arith
   times-takes (Pts p) e =
       let f = sym (h.is _) ∙ e in
-      let g = times-by (flag c 8) (flag c 9) _ _ 1 (ap number_of f) (ap kind-of f) in
+      let g = times-by (flag c 8) (flag c 9) _ _ 1 (ap number_of_lem f) (ap kind-of f) in
       rw g.0 (omega arith)
   times-takes (Both p d) e =
       let f = sym (h.is _) ∙ e in
-      let g = times-by (flag c 8) (flag c 9) _ _ 2 (ap number_of f) (ap kind-of f) in
+      let g = times-by (flag c 8) (flag c 9) _ _ 2 (ap number_of_lem f) (ap kind-of f) in
       rw g.0 (omega (arith, g.1, pick-bit (bit c 9)))
 
 module _ (u : Unit) (xs : List ℕ) (h : HasFields u xs) where
@@ -250,7 +250,7 @@ module _ (u : Unit) (xs : List ℕ) (h : HasFields u xs) where
   unfolding payload_bytes header_payload part_of
   header-room p =
       let q : parsed_id (id_of xs) ≡ true = ap parsed_id h.id ∙ p in
-      let d = headed-done xs (answer 0 []) (ap number_of h.head) in
+      let d = headed-done xs (answer 0 []) (ap number_of_lem h.head) in
       let own = length-take (length c - payload_at c) (drop (6 + payload_at c) xs) in
       simp (d.is, q, taken.is) (omega (arith, d.long, fields-room, taken.fields, taken.header, length-drop 6 xs, own))
 

@@ -201,8 +201,8 @@ module _ (b e : ℕ) where
   unfolding make_clock clock_number
   number-refused p = limited-refused (clock_fits b e) (b ∷ e ∷ []) _ p
 
-  pub number_of : (c : ClockRef) → answer 0 (clock_values c) ≡ make_clock b e → clock_number c.base c.extension ≡ clock_number b e
-  number_of c p = ap (λ (k : ClockRef). clock_number k.base k.extension) (clock-made c p)
+  pub number_of_lem : (c : ClockRef) → answer 0 (clock_values c) ≡ make_clock b e → clock_number c.base c.extension ≡ clock_number b e
+  number_of_lem c p = ap (λ (k : ClockRef). clock_number k.base k.extension) (clock-made c p)
 
 -- counters and PIDs
 pub counter-is : (b : ℕ) → b % 16 ≡ counter_of b

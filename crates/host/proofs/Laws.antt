@@ -25,7 +25,7 @@ use Rattle.control.specs.declared.ContinuityCounter.{ContinuityCounter}
 use Rattle.control.specs.declared.CounterMade.{CounterMade}
 use Rattle.control.specs.declared.Scheme.{Scheme}
 use Rattle.control.specs.Clock.{clock, clock_values, clock_number, given_made, given_number, make_clock}
-use Rattle.control.proofs.Laws.{clock-made, counter_made, number-refused, number_of}
+use Rattle.control.proofs.Laws.{clock-made, counter_made, number-refused, number_of_lem}
 use Rattle.control.specs.declared.Compared.{Compared}
 use Rattle.control.specs.Control.{given_counter, given_scheme, make_counter, compare, follows, is_scrambled, scrambling, read_scheme}
 use Rattle.pes.specs.declared.StreamId.{StreamId}
@@ -180,7 +180,7 @@ number-none b e m p i = rw (number-refused b e (given-case given_made p i)) (rep
 
 pub number-some : (b e : ℕ) {w : ℕ} {lent left : List ℕ} (m : ClockMade) (c : ClockRef) (r k : ClockNumber) → given_made m ≡ make_clock b e → m ≡ ClockMade.Done c
     → given_number r ≡ clock_number c.base c.extension → r ≡ k → Reports (given_number k) w lent left → Reports (clock_number b e) w lent left
-number-some b e m c r k p i q j t = reports_of given_number (q ∙ number_of b e c (given-case given_made p i)) j t
+number-some b e m c r k p i q j t = reports_of given_number (q ∙ number_of_lem b e c (given-case given_made p i)) j t
 
 pub follows-reports : (a b l : ℕ) (f : Bool) (m n : CounterMade) (x y : ContinuityCounter) → given_counter m ≡ make_counter a → m ≡ CounterMade.Done x
     → given_counter n ≡ make_counter b → n ≡ CounterMade.Done y → f ≡ follows x.val y.val → Reports (follows_answer a b) 0 (l ∷ []) (bool_byte f ∷ [])

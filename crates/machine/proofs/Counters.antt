@@ -176,14 +176,14 @@ module _ (p : List ℕ) (c k : ContinuityCounter) (g : k ≡ as_counter (counter
 
 -- ---- the discontinuity bit is what the adaptation field's reader gives of the field that the packet's reader gives
 
-first_of : (n : ℕ) (xs : List ℕ) → 1 ≤ n → get_or (take n xs) 0 0 ≡ get_or xs 0 0
-first_of zero xs h = absurd (omega arith)
-first_of (suc n) [] h = refl
-first_of (suc n) (x ∷ xs) h = refl
+first_of_lem : (n : ℕ) (xs : List ℕ) → 1 ≤ n → get_or (take n xs) 0 0 ≡ get_or xs 0 0
+first_of_lem zero xs h = absurd (omega arith)
+first_of_lem (suc n) [] h = refl
+first_of_lem (suc n) (x ∷ xs) h = refl
 
 bit-of : (n : ℕ) (xs : List ℕ) → 1 ≤ n → bit (take n xs) 0 ≡ bit xs 0
 unfolding bit
-bit-of n xs h = ap (λ (b : ℕ). b / 2 ^ 7 % 2) (first_of n xs h)
+bit-of n xs h = ap (λ (b : ℕ). b / 2 ^ 7 % 2) (first_of_lem n xs h)
 
 -- a field that is given has a byte
 given-long : (f g : Bool) (n : ℕ) → pick f (pick g (pick (leb 1 n) (leb n 182) false) (eqb n 183)) false ≡ true → 1 ≤ n
