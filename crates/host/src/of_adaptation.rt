@@ -37,10 +37,7 @@ pub fn cmv_adaptation_field_random_access_indicator(buf: &[u8], value: &mut u64)
 }
 
 // adaptation::elementary_stream_priority_indicator
-pub fn cmv_adaptation_field_elementary_stream_priority_indicator(
-    buf: &[u8],
-    value: &mut u64,
-) -> u32
+pub fn cmv_adaptation_field_elementary_stream_priority_indicator(buf: &[u8], value: &mut u64) -> u32
     ensures { Reports (read_flag 2 buf.now) result (value.old ∷ []) (value.new ∷ []) }
 {
     report_flag(adaptation::elementary_stream_priority_indicator(buf), value)
@@ -120,11 +117,7 @@ pub fn cmv_adaptation_field_transport_private_data(
 }
 
 // adaptation::adaptation_field_extension_at: where what adaptation_field_extension gives lies
-pub fn cmv_adaptation_field_extension(
-    buf: &[u8],
-    place: &mut u64,
-    length: &mut u64,
-) -> u32
+pub fn cmv_adaptation_field_extension(buf: &[u8], place: &mut u64, length: &mut u64) -> u32
     ensures { Reports (read_extension buf.now) result (place.old ∷ length.old ∷ [])
         (place.new ∷ length.new ∷ []) }
 {
@@ -136,11 +129,7 @@ pub fn cmv_adaptation_field_extension(
 }
 
 // adaptation::extension::ltw_offset: kind 1 where it is valid
-pub fn cmv_adaptation_extension_ltw_offset(
-    buf: &[u8],
-    kind: &mut u64,
-    offset: &mut u64,
-) -> u32
+pub fn cmv_adaptation_extension_ltw_offset(buf: &[u8], kind: &mut u64, offset: &mut u64) -> u32
     ensures { Reports (read_ltw buf.now) result (kind.old ∷ offset.old ∷ [])
         (kind.new ∷ offset.new ∷ []) }
 {
@@ -175,11 +164,7 @@ pub fn cmv_adaptation_extension_piecewise_rate(buf: &[u8], value: &mut u64) -> u
 }
 
 // adaptation::extension::seamless_splice
-pub fn cmv_adaptation_extension_seamless_splice(
-    buf: &[u8],
-    splice: &mut u64,
-    dts: &mut u64,
-) -> u32
+pub fn cmv_adaptation_extension_seamless_splice(buf: &[u8], splice: &mut u64, dts: &mut u64) -> u32
     ensures { Reports (read_splice buf.now) result (splice.old ∷ dts.old ∷ [])
         (splice.new ∷ dts.new ∷ []) }
 {

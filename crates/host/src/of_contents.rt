@@ -368,11 +368,7 @@ fn report_part(r: PartRead, place: &mut u64, length: &mut u64) -> u32
 }
 
 // contents::pes_extension_at: where what pes_extension gives lies
-pub fn cmv_pes_contents_pes_extension(
-    buf: &[u8],
-    place: &mut u64,
-    length: &mut u64,
-) -> u32
+pub fn cmv_pes_contents_pes_extension(buf: &[u8], place: &mut u64, length: &mut u64) -> u32
     ensures { Reports (read_pes_extension buf.now) result (place.old ∷ length.old ∷ [])
         (place.new ∷ length.new ∷ []) }
 {

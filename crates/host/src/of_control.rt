@@ -34,12 +34,7 @@ pub fn cmv_clock_ref_from_slice(buf: &[u8], base: &mut u64, extension: &mut u64)
 }
 
 // ClockRef::from_parts, and its two values
-pub fn cmv_clock_ref_from_parts(
-    b: u64,
-    e: u16,
-    base: &mut u64,
-    extension: &mut u64,
-) -> u32
+pub fn cmv_clock_ref_from_parts(b: u64, e: u16, base: &mut u64, extension: &mut u64) -> u32
     ensures { Reports (make_clock b e) result (base.old ∷ extension.old ∷ [])
         (base.new ∷ extension.new ∷ []) }
 {
@@ -196,11 +191,7 @@ pub fn report_scrambling(
 }
 
 // TransportScramblingControl::is_scrambled and scheme
-pub fn cmv_transport_scrambling_control(
-    byte: u8,
-    scrambled: &mut u64,
-    scheme: &mut u64,
-) -> u32
+pub fn cmv_transport_scrambling_control(byte: u8, scrambled: &mut u64, scheme: &mut u64) -> u32
     ensures { Reports (scrambling_answer byte) result (scrambled.old ∷ scheme.old ∷ [])
         (scrambled.new ∷ scheme.new ∷ []) }
 {

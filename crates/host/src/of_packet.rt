@@ -95,11 +95,7 @@ pub fn cmv_packet_transport_scrambling_control(
 }
 
 // packet::adaptation_control
-pub fn cmv_packet_adaptation_control(
-    buf: &[u8],
-    field: &mut u64,
-    payload: &mut u64,
-) -> u32
+pub fn cmv_packet_adaptation_control(buf: &[u8], field: &mut u64, payload: &mut u64) -> u32
     ensures { Reports (read_control buf.now) result (field.old ∷ payload.old ∷ [])
         (field.new ∷ payload.new ∷ []) }
 {

@@ -70,11 +70,7 @@ pub fn cmv_pes_header_stream_id(buf: &[u8], kind: &mut u64, low: &mut u64) -> u3
 }
 
 // pes::pes_packet_length: kind 0 unbounded, kind 1 bounded
-pub fn cmv_pes_header_pes_packet_length(
-    buf: &[u8],
-    kind: &mut u64,
-    length: &mut u64,
-) -> u32
+pub fn cmv_pes_header_pes_packet_length(buf: &[u8], kind: &mut u64, length: &mut u64) -> u32
     ensures { Reports (read_length buf.now) result (kind.old ∷ length.old ∷ [])
         (kind.new ∷ length.new ∷ []) }
 {
@@ -95,12 +91,7 @@ pub fn cmv_pes_header_pes_packet_length(
 }
 
 // pes::contents: kind 0 bare payload, kind 1 parsed contents, and where they lie
-pub fn cmv_pes_header_contents(
-    buf: &[u8],
-    kind: &mut u64,
-    place: &mut u64,
-    length: &mut u64,
-) -> u32
+pub fn cmv_pes_header_contents(buf: &[u8], kind: &mut u64, place: &mut u64, length: &mut u64) -> u32
     ensures { Reports (read_contents_part buf.now) result (kind.old ∷ place.old ∷ length.old ∷ [])
         (kind.new ∷ place.new ∷ length.new ∷ []) }
 {
