@@ -23,7 +23,7 @@ use Rattle.machine.specs.declared.Last.TheVariants.{Nothing, At}
 use Rattle.machine.specs.declared.Continuity.{Continuity}
 use Rattle.machine.specs.declared.Continuity.TheVariants.{GoesOn}
 use Rattle.machine.specs.declared.Machine.{Machine}
-use Rattle.machine.specs.Events.{State, continuity, due, announces, announcement, ended, continued, events_of, next, run}
+use Rattle.machine.specs.Events.{State, continuity, due, announces, announcement, continued, events_of, next, run}
 use Rattle.machine.specs.Step.{state_of, fresh, events_at, wrong_state, number_of, advanced, step_of, log_of}
 use Rattle.machine.specs.Run.{packets_in, run_of, taken_of, report, not_run, run_number, report_of, start_flags}
 use Rattle.machine.specs.History.{first}

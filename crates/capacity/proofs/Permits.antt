@@ -1,13 +1,13 @@
 -- What the writer's tests say of a route and a unit that pass them.
 -- Assumes nothing.
-use mathlib.Core.Path.{◌≡◌, refl}
-use mathlib.Core.Bool.{Bool, true, false}
+use mathlib.Core.Path.{◌≡◌}
+use mathlib.Core.Bool.{Bool, true}
 use mathlib.Core.List.{List, [], ◌∷◌}
 use Prim.Native.Nat.{ℕ, ◌-◌, ◌^◌, ◌≤◌, ◌<◌}
 use native.Mathlib.Omega.{arith}
 use lib.Dec.{leb, ltb}
 use borrow.Author.Tests.{leb-true, ltb-true}
-use Rattle.bits.specs.Answer.{pick, All}
+use Rattle.bits.specs.Answer.{All}
 use Rattle.bits.proofs.Bools.{both}
 use Rattle.pes.specs.Stream.{parsed_id}
 use Rattle.writer.specs.declared.Route.{Route}

@@ -5,8 +5,6 @@ use mathlib.Core.Bool.{Bool, true, false, ◌||◌}
 use mathlib.Core.List.{List, [], ◌∷◌}
 use Prim.Native.Nat.{ℕ, ◌+◌, ◌-◌, ◌≤◌, ◌<◌}
 use native.Mathlib.Omega.{arith}
-use types.Run.{OneOf, miss}
-use denote.Enum.Declared.{tag_of}
 use lib.ListN.{length, get_or, take, drop}
 use lib.Dec.{eqb, leb, ltb}
 use borrow.Author.Rules.{rules}
@@ -17,7 +15,6 @@ use Rattle.bits.proofs.Parts.{part_in, part_cut, part_length, part-of-part, part
 use Rattle.packet.proofs.Laws.{first-length, first-sync, first-after}
 use Rattle.pes_header.specs.declared.PayloadRead.{PayloadRead}
 use Rattle.pes_header.specs.Payload.{given_payload, header_payload, payload_bytes}
-use Rattle.pes_header.specs.contracts.PayloadRead.{the_type as payload-type}
 use Rattle.pes_header.proofs.Laws.{payload-refusal}
 use Rattle.pes_header.proofs.Theorems.{payload-within}
 use Rattle.event_log.specs.declared.Event.{Event}
@@ -25,7 +22,6 @@ use Rattle.gather.specs.declared.Lies.{Lies}
 use Rattle.gather.specs.declared.Lies.TheVariants.{Packet, Store}
 use Rattle.gather.specs.declared.Gathering.{Gathering}
 use Rattle.gather.specs.declared.HeldRead.{HeldRead}
-use Rattle.gather.specs.contracts.HeldRead.{the_type}
 use Rattle.gather.specs.Belongs.{event_bytes, own_place, own_bytes}
 use Rattle.gather.specs.Gather.{gathering, emptied, wrong_event, leaves_packet, wrong_gathering, kept, added, next_gathering, not_gathered, gather_number, GatherOutcome}
 use Rattle.gather.specs.Gather.{gather_outcome, gather_of, store_of, given_held, not_read, read_of, lying, held_bytes, CallStands, rested, appended}
@@ -37,7 +33,7 @@ abbrev Own : List ℕ → ℕ → ℕ → Type 0
 Own xs p n = (p ≡ own_place xs) × (part_at p n xs ≡ own_bytes xs) × (p + n ≤ length xs)
 
 module _ (xs : List ℕ) (r : PayloadRead) (g : given_payload r ≡ header_payload xs) where
-  pub own_refused : OneOf (1 ∷ 2 ∷ 3 ∷ 4 ∷ 5 ∷ 6 ∷ []) (tag_of payload-type r) → Own xs 0 0
+  pub own_refused : ((p n : ℕ) → r ≡ PayloadRead.Done p n → ⊥) → Own xs 0 0
   unfolding own_place own_bytes payload_bytes
   own_refused k =
       let h : (header_payload xs).number ≡ 0 → ⊥ = λ z. payload-refusal r k (ap (λ (a : Answer). a.number) g ∙ z) in
@@ -138,15 +134,15 @@ module _ (g : Gathering) (p s : List ℕ) where
   unfolding held_bytes
   bytes-are l r z e h = simp (eq-eqb (read_of g p s) 0 z, e) h
 
-held-refusal : (r : HeldRead) → OneOf (1 ∷ 2 ∷ 3 ∷ []) (tag_of the_type r) → given_held r ≡ 0 → ⊥
-held-refusal HeldRead.Done k z = miss (1 ∷ 2 ∷ 3 ∷ []) 0 tt k
+held-refusal : (r : HeldRead) → (r ≡ HeldRead.Done → ⊥) → given_held r ≡ 0 → ⊥
+held-refusal HeldRead.Done k z = k refl
 held-refusal HeldRead.WrongLength k z = omega arith
 held-refusal HeldRead.NoSync k z = omega arith
 held-refusal HeldRead.OutOfRange k z = omega arith
 
 -- by what their reading says
 module _ (g : Gathering) (p s : List ℕ) (r : HeldRead) (h : given_held r ≡ read_of g p s) where
-  pub bytes-refused : OneOf (1 ∷ 2 ∷ 3 ∷ []) (tag_of the_type r) → [] ≡ held_bytes g p s
+  pub bytes-refused : (r ≡ HeldRead.Done → ⊥) → [] ≡ held_bytes g p s
   unfolding held_bytes
   bytes-refused k = simp (ne_eqb (read_of g p s) 0 (λ z. held-refusal r k (h ∙ z)))
 

@@ -1,19 +1,18 @@
 -- What a row stands for, in each case.
 -- Assumes nothing.
-use mathlib.Core.Path.{◌≡◌, refl, sym, ap, ◌∙◌}
+use mathlib.Core.Path.{◌≡◌, refl}
 use mathlib.Core.Bool.{Bool, true, false}
 use mathlib.Core.List.{List, [], ◌∷◌}
 use Prim.Native.Nat.{ℕ, ◌≤◌, ◌<◌}
 use native.Mathlib.Omega.{arith}
 use lib.ListN.{get_or}
-use lib.Dec.{eqb, ltb, leb}
+use lib.Dec.{eqb, ltb}
 use borrow.Author.Rules.{rules}
 use borrow.Author.Tests.{lt-ltb, le-ltb, ne_eqb}
 use Rattle.bits.specs.Answer.{pick, truth}
 use Rattle.gather.specs.declared.Lies.{Lies}
 use Rattle.gather.specs.declared.Lies.TheVariants.{Packet, Store}
 use Rattle.gather.specs.declared.Gathering.{Gathering}
-use Rattle.gather.specs.declared.row.RowRead.{RowRead}
 use Rattle.gather.specs.declared.row.RowRead.TheVariants.{Is, Stray}
 use Rattle.gather.specs.Gather.{gathering}
 use Rattle.gather.specs.Row.{lies_of, lies_number, gathering_of, gathering_row}

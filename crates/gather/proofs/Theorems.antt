@@ -22,7 +22,7 @@ use Rattle.gather.specs.declared.Gathered.{Gathered}
 use Rattle.gather.specs.declared.HeldRead.{HeldRead}
 use Rattle.gather.specs.declared.Verdict.{Verdict}
 use Rattle.gather.specs.Belongs.{own_place, own_bytes}
-use Rattle.gather.specs.Gather.{gathering, emptied, kept, added, not_gathered, gather_number, GatherOutcome}
+use Rattle.gather.specs.Gather.{emptied, kept, added, not_gathered, gather_number, GatherOutcome}
 use Rattle.gather.specs.Gather.{store_number, given_gathered, gather_of, store_of, given_held, held_bytes}
 
 -- ---- one answer only: any two answers that meet a function's promise are equal

@@ -1,6 +1,6 @@
 -- A gathering state as the numbers that a host keeps, in this order: open 0 or 1; the count; where the bytes lie, a place of the packet or
 -- 255 for the store.
-use Rattle.std.specs.Prelude.{Bool, true, false, List, [], ◌∷◌, ◌++◌, ℕ, eqb, ltb, get_or}
+use Rattle.std.specs.Prelude.{Bool, true, List, [], ◌∷◌, ◌++◌, ℕ, eqb, ltb, get_or}
 use Rattle.bits.specs.Answer.{Answer, answer, pick, truth, Check, ◌gives◌, first_of}
 use Rattle.bits.specs.Numbers.{done, out_of_range, store_full}
 use Rattle.packet.specs.Packet.{not_packet}

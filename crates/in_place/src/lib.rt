@@ -7,8 +7,8 @@ ghost use Rattle.machine.specs.Step.{verdict_number, step_of, log_of};
 ghost use Rattle.machine.specs.Run.{reported, report_of, ran_log};
 ghost use Rattle.gather.specs.Gather.{store_number, gather_of, store_of};
 
-use gather::Gathering;
 use event_log::Event;
+use gather::Gathering;
 use machine::{Machine, Report, Verdict};
 
 // One packet: the lent machine is advanced. A refusal leaves it.

@@ -8,9 +8,7 @@ use Prim.Native.Nat.{ℕ, suc}
 use Rattle.bits.specs.Answer.{pick}
 use Rattle.bits.proofs.Bools.{false_true}
 use Rattle.packet.specs.Packet.{start_flag}
-use Rattle.event_log.specs.declared.Event.{Event}
 use Rattle.event_log.specs.Entry.{start_stream}
-use Rattle.machine.specs.declared.Mode.{Mode}
 use Rattle.machine.specs.declared.Mode.TheVariants.{Standard}
 use Rattle.machine.specs.declared.Phase.{Phase}
 use Rattle.machine.specs.declared.Phase.TheVariants.{Begin, Started, IgnoreRest}
@@ -18,7 +16,7 @@ use Rattle.machine.specs.declared.Continuity.{Continuity}
 use Rattle.machine.specs.declared.Continuity.TheVariants.{GoesOn, Repeats, Breaks}
 use Rattle.machine.specs.Events.{State, event_alone, continuity, calls, announces, announcement, continued}
 use Rattle.machine.specs.Events.{events_by, events_of, next, run}
-use Rattle.machine.specs.History.{first, standardly, state_at, starts, first_call, first_called, StartsFirst}
+use Rattle.machine.specs.History.{first, state_at, starts, first_call, first_called, StartsFirst}
 use Rattle.machine.proofs.Theorems.{happened, events-are, starts-join, event-starts, phase_then, phase-then}
 use Rattle.machine.proofs.History.{mode-stays, mode-at, standard-is}
 

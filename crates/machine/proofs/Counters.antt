@@ -3,13 +3,10 @@
 use mathlib.Core.Path.{◌≡◌, refl, sym, ap, ◌∙◌}
 use mathlib.Core.Bool.{Bool, true, false, not}
 use mathlib.Core.List.{List, [], ◌∷◌}
-use mathlib.Core.Logic.{⊎_elim}
 use Prim.Native.Nat.{ℕ, zero, suc, ◌/◌, ◌%◌, ◌^◌, ◌≤◌}
 use native.Mathlib.Omega.{arith}
 use lib.Dec.{eqb, leb}
 use lib.ListN.{length, take, drop, get_or, length-take, length-drop}
-use types.Run.{OneOf}
-use denote.Enum.Declared.{tag_of}
 use borrow.Author.Rules.{rules}
 use borrow.Author.Tests.{ne_eqb, eqb-true, leb-true, not-true, not-false}
 use Rattle.bits.specs.Answer.{Answer, answer, pick, truth, part_of}
@@ -20,13 +17,11 @@ use Rattle.control.specs.declared.ContinuityCounter.{ContinuityCounter}
 use Rattle.control.specs.declared.Compared.{Compared}
 use Rattle.control.specs.declared.Compared.TheVariants.{Next, Same, Jump}
 use Rattle.control.specs.Control.{compare, is_same, follows}
-use Rattle.control.specs.contracts.Compared.{the_type as compared-type}
-use Rattle.control.proofs.Laws.{apart, same_equal, not_same}
+use Rattle.control.proofs.Laws.{apart, same_equal}
 use Rattle.packet.specs.Packet.{counter_field, payload_flag, adaptation_flag, adaptation_length, adaptation_there, read_adaptation, payload_there}
 use Rattle.packet.proofs.Laws.{packet-is}
 use Rattle.adaptation.specs.declared.FlagRead.{FlagRead}
 use Rattle.adaptation.specs.Adaptation.{given_flag, no_flags, read_flag}
-use Rattle.adaptation.specs.contracts.FlagRead.{the_type as flag-type}
 use Rattle.machine.specs.declared.Mode.{Mode}
 use Rattle.machine.specs.declared.Mode.TheVariants.{Crate, Standard}
 use Rattle.machine.specs.declared.Last.{Last}
@@ -35,7 +30,6 @@ use Rattle.machine.specs.declared.Repeat.{Repeat}
 use Rattle.machine.specs.declared.Repeat.TheVariants.{Barred, Open, Spent}
 use Rattle.machine.specs.declared.Continuity.{Continuity}
 use Rattle.machine.specs.declared.Continuity.TheVariants.{GoesOn, Repeats, Breaks}
-use Rattle.machine.specs.contracts.Continuity.{the_type as continuity-type}
 use Rattle.machine.specs.Events.{as_counter, repeated, judged, by_counter, discontinuity, excused, continuity_by, again_by}
 use Rattle.machine.specs.Original.{continuous}
 
@@ -172,8 +166,13 @@ module _ (p : List ℕ) (c k : ContinuityCounter) (g : k ≡ as_counter (counter
   pub same_read : r ≡ Same → true ≡ is_same (compare (counter_field p) c.val)
   same_read h = ap is_same (sym h ∙ read_as)
 
-  pub same_not : OneOf (0 ∷ 2 ∷ []) (tag_of compared-type r) → false ≡ is_same (compare (counter_field p) c.val)
-  same_not t = not_same r t ∙ ap is_same read_as
+  pub same_not : (r ≡ Same → ⊥) → false ≡ is_same (compare (counter_field p) c.val)
+  same_not t = go r t ∙ ap is_same read_as
+    where
+      go : (r : Compared) → (r ≡ Same → ⊥) → false ≡ is_same r
+      go Next t = refl
+      go Same t = absurd (t refl)
+      go Jump t = refl
 
 -- ---- the discontinuity bit is what the adaptation field's reader gives of the field that the packet's reader gives
 
@@ -231,13 +230,13 @@ module _ (p : List ℕ) (l : length p ≡ 188) (s : get_or p 0 0 ≡ 0x47) where
         go true false true z = let y : ◌≡◌ {A = ℕ} 0 1 = ap (λ (a : Answer). get_or a.values 0 0) z in absurd (omega arith)
         go false b d z = let y : ◌≡◌ {A = ℕ} 0 1 = ap (λ (a : Answer). a.number) z in absurd (omega arith)
 
-    pub bit-missing : OneOf (1 ∷ []) (tag_of flag-type r) → false ≡ discontinuity p
+    pub bit-missing : ((b : Bool) → r ≡ FlagRead.Done b → ⊥) → false ≡ discontinuity p
     unfolding discontinuity
     bit-missing t = sym (go (adaptation_there p) r t refl read-bit)
       where
-        go : (t : Bool) (r : FlagRead) → OneOf (1 ∷ []) (tag_of flag-type r) → adaptation_there p ≡ t → given_flag r ≡ pick t (answer 0 (truth (discontinuity p) ∷ [])) (answer 1 [])
+        go : (t : Bool) (r : FlagRead) → ((b : Bool) → r ≡ FlagRead.Done b → ⊥) → adaptation_there p ≡ t → given_flag r ≡ pick t (answer 0 (truth (discontinuity p) ∷ [])) (answer 1 [])
             → pick t (flag p 40) false ≡ false
-        go t (FlagRead.Done b) k h z = absurd (omega arith)
+        go t (FlagRead.Done b) k h z = absurd (k b refl)
         go true FlagRead.WrongLength k h z = let y : ◌≡◌ {A = ℕ} 1 0 = ap (λ (a : Answer). a.number) z in absurd (omega arith)
         go false FlagRead.WrongLength k h z = refl
 
@@ -247,15 +246,15 @@ module _ (k : Continuity) (p : List ℕ) where
   pub again-spent : k ≡ Repeats → Spent ≡ again_by k p
   again-spent h = rw h
 
-  again_kept : OneOf (0 ∷ 2 ∷ []) (tag_of continuity-type k) → (f : Bool) → f ≡ payload_flag p → pick f Open Barred ≡ again_by k p
+  again_kept : (k ≡ Repeats → ⊥) → (f : Bool) → f ≡ payload_flag p → pick f Open Barred ≡ again_by k p
   again_kept t f g = go k t
     where
-      go : (k : Continuity) → OneOf (0 ∷ 2 ∷ []) (tag_of continuity-type k) → pick f Open Barred ≡ again_by k p
+      go : (k : Continuity) → (k ≡ Repeats → ⊥) → pick f Open Barred ≡ again_by k p
       go GoesOn t = rw g
-      go Repeats t = absurd (⊎_elim (λ e. omega arith) (λ e. omega arith) t)
+      go Repeats t = absurd (t refl)
       go Breaks t = rw g
 
-  module _ (t : OneOf (0 ∷ 2 ∷ []) (tag_of continuity-type k)) (f : Bool) (g : f ≡ payload_flag p) where
+  module _ (t : (k ≡ Repeats → ⊥)) (f : Bool) (g : f ≡ payload_flag p) where
     pub again-open : f ≡ true → Open ≡ again_by k p
     again-open h = ap (λ (b : Bool). pick b Open Barred) (sym h) ∙ again_kept t f g
 

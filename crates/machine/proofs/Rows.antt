@@ -7,8 +7,6 @@ use Prim.Native.Nat.{ℕ, ◌≤◌, ◌<◌}
 use native.Mathlib.Omega.{arith}
 use lib.ListN.{length, get_or}
 use lib.Dec.{eqb, ltb}
-use types.Run.{OneOf}
-use denote.Enum.Declared.{tag_of}
 use borrow.Author.Rules.{rules}
 use borrow.Author.Tests.{lt-ltb, le-ltb, ne_eqb, ltb-false}
 use Rattle.bits.specs.Answer.{pick, first_of, other, truth}
@@ -32,11 +30,6 @@ use Rattle.machine.specs.declared.row.LastRead.{LastRead}
 use Rattle.machine.specs.declared.row.AgainRead.{AgainRead}
 use Rattle.machine.specs.declared.row.AnnouncedRead.{AnnouncedRead}
 use Rattle.machine.specs.declared.row.RowRead.TheVariants.{Is, Stray}
-use Rattle.machine.specs.contracts.row.ModeRead.{the_type as mode-type}
-use Rattle.machine.specs.contracts.row.PhaseRead.{the_type as phase-type}
-use Rattle.machine.specs.contracts.row.LastRead.{the_type as last-type}
-use Rattle.machine.specs.contracts.row.AgainRead.{the_type as again-type}
-use Rattle.machine.specs.contracts.row.AnnouncedRead.{the_type as announced-type}
 use Rattle.machine.specs.Events.{as_counter}
 use Rattle.machine.specs.Step.{machine, wrong_last, not_taken}
 use Rattle.machine.specs.Row.{mode_of, phase_of, last_of, again_of, no_last, mode_read, phase_read, last_read, again_read, announced_read}
@@ -64,12 +57,12 @@ mode_value d (ModeRead.Is v) = v
 mode_value d ModeRead.Stray = d
 
 module _ (n : ℕ) (r : ModeRead) (e : r ≡ mode_read n) where
-  mode-strays : OneOf (1 ∷ []) (tag_of mode-type r) → ltb 1 n ≡ true
+  mode-strays : ((v : Mode) → r ≡ ModeRead.Is v → ⊥) → ltb 1 n ≡ true
   unfolding mode_strays mode_value
   mode-strays t = read-strays ModeRead.Is ModeRead.Stray mode_strays mode_value (λ v. refl) refl (λ d v. refl) (ltb 1 n) (mode_of n) r (go r t) e
     where
-      go : (r : ModeRead) → OneOf (1 ∷ []) (tag_of mode-type r) → mode_strays r ≡ true
-      go (ModeRead.Is v) t = absurd (omega arith)
+      go : (r : ModeRead) → ((v : Mode) → r ≡ ModeRead.Is v → ⊥) → mode_strays r ≡ true
+      go (ModeRead.Is v) t = absurd (t v refl)
       go ModeRead.Stray t = refl
 
   mode-stands : (v : Mode) → r ≡ ModeRead.Is v → (ltb 1 n ≡ false) × (v ≡ mode_of n)
@@ -85,12 +78,12 @@ phase_value d (PhaseRead.Is v) = v
 phase_value d PhaseRead.Stray = d
 
 module _ (n : ℕ) (r : PhaseRead) (e : r ≡ phase_read n) where
-  phase-strays : OneOf (1 ∷ []) (tag_of phase-type r) → ltb 2 n ≡ true
+  phase-strays : ((v : Phase) → r ≡ PhaseRead.Is v → ⊥) → ltb 2 n ≡ true
   unfolding phase_strays phase_value
   phase-strays t = read-strays PhaseRead.Is PhaseRead.Stray phase_strays phase_value (λ v. refl) refl (λ d v. refl) (ltb 2 n) (phase_of n) r (go r t) e
     where
-      go : (r : PhaseRead) → OneOf (1 ∷ []) (tag_of phase-type r) → phase_strays r ≡ true
-      go (PhaseRead.Is v) t = absurd (omega arith)
+      go : (r : PhaseRead) → ((v : Phase) → r ≡ PhaseRead.Is v → ⊥) → phase_strays r ≡ true
+      go (PhaseRead.Is v) t = absurd (t v refl)
       go PhaseRead.Stray t = refl
 
   phase-stands : (v : Phase) → r ≡ PhaseRead.Is v → (ltb 2 n ≡ false) × (v ≡ phase_of n)
@@ -106,12 +99,12 @@ last_value d (LastRead.Is v) = v
 last_value d LastRead.Stray = d
 
 module _ (n : ℕ) (r : LastRead) (e : r ≡ last_read n) where
-  last-strays : OneOf (1 ∷ []) (tag_of last-type r) → no_last n ≡ true
+  last-strays : ((v : Last) → r ≡ LastRead.Is v → ⊥) → no_last n ≡ true
   unfolding last_strays last_value
   last-strays t = read-strays LastRead.Is LastRead.Stray last_strays last_value (λ v. refl) refl (λ d v. refl) (no_last n) (last_of n) r (go r t) e
     where
-      go : (r : LastRead) → OneOf (1 ∷ []) (tag_of last-type r) → last_strays r ≡ true
-      go (LastRead.Is v) t = absurd (omega arith)
+      go : (r : LastRead) → ((v : Last) → r ≡ LastRead.Is v → ⊥) → last_strays r ≡ true
+      go (LastRead.Is v) t = absurd (t v refl)
       go LastRead.Stray t = refl
 
   last-stands : (v : Last) → r ≡ LastRead.Is v → (no_last n ≡ false) × (v ≡ last_of n)
@@ -127,12 +120,12 @@ again_value d (AgainRead.Is v) = v
 again_value d AgainRead.Stray = d
 
 module _ (n : ℕ) (r : AgainRead) (e : r ≡ again_read n) where
-  again-strays : OneOf (1 ∷ []) (tag_of again-type r) → ltb 2 n ≡ true
+  again-strays : ((v : Repeat) → r ≡ AgainRead.Is v → ⊥) → ltb 2 n ≡ true
   unfolding again_strays again_value
   again-strays t = read-strays AgainRead.Is AgainRead.Stray again_strays again_value (λ v. refl) refl (λ d v. refl) (ltb 2 n) (again_of n) r (go r t) e
     where
-      go : (r : AgainRead) → OneOf (1 ∷ []) (tag_of again-type r) → again_strays r ≡ true
-      go (AgainRead.Is v) t = absurd (omega arith)
+      go : (r : AgainRead) → ((v : Repeat) → r ≡ AgainRead.Is v → ⊥) → again_strays r ≡ true
+      go (AgainRead.Is v) t = absurd (t v refl)
       go AgainRead.Stray t = refl
 
   again-stands : (v : Repeat) → r ≡ AgainRead.Is v → (ltb 2 n ≡ false) × (v ≡ again_of n)
@@ -148,12 +141,12 @@ announced_value d (AnnouncedRead.Is v) = v
 announced_value d AnnouncedRead.Stray = d
 
 module _ (n : ℕ) (r : AnnouncedRead) (e : r ≡ announced_read n) where
-  announced-strays : OneOf (1 ∷ []) (tag_of announced-type r) → ltb 1 n ≡ true
+  announced-strays : ((v : Bool) → r ≡ AnnouncedRead.Is v → ⊥) → ltb 1 n ≡ true
   unfolding announced_strays announced_value
   announced-strays t = read-strays AnnouncedRead.Is AnnouncedRead.Stray announced_strays announced_value (λ v. refl) refl (λ d v. refl) (ltb 1 n) (eqb n 1) r (go r t) e
     where
-      go : (r : AnnouncedRead) → OneOf (1 ∷ []) (tag_of announced-type r) → announced_strays r ≡ true
-      go (AnnouncedRead.Is v) t = absurd (omega arith)
+      go : (r : AnnouncedRead) → ((v : Bool) → r ≡ AnnouncedRead.Is v → ⊥) → announced_strays r ≡ true
+      go (AnnouncedRead.Is v) t = absurd (t v refl)
       go AnnouncedRead.Stray t = refl
 
   announced-stands : (v : Bool) → r ≡ AnnouncedRead.Is v → (ltb 1 n ≡ false) × (v ≡ eqb n 1)
@@ -194,17 +187,17 @@ module _ (n : ℕ) where
 -- ---- a row, number by number
 
 module _ (xs : List ℕ) (r₀ : ModeRead) (e₀ : r₀ ≡ mode_read (get_or xs 0 0)) where
-  pub stray-mode : OneOf (1 ∷ []) (tag_of mode-type r₀) → Stray ≡ machine_of xs
+  pub stray-mode : ((v : Mode) → r₀ ≡ ModeRead.Is v → ⊥) → Stray ≡ machine_of xs
   unfolding machine_of strays
   stray-mode t = simp (mode-strays (get_or xs 0 0) r₀ e₀ t)
 
   module _ (mo : Mode) (f₀ : r₀ ≡ ModeRead.Is mo) (r₁ : PhaseRead) (e₁ : r₁ ≡ phase_read (get_or xs 1 0)) where
-    pub stray-phase : OneOf (1 ∷ []) (tag_of phase-type r₁) → Stray ≡ machine_of xs
+    pub stray-phase : ((v : Phase) → r₁ ≡ PhaseRead.Is v → ⊥) → Stray ≡ machine_of xs
     unfolding machine_of strays
     stray-phase t = simp ((mode-stands (get_or xs 0 0) r₀ e₀ mo f₀).0, phase-strays (get_or xs 1 0) r₁ e₁ t)
 
     module _ (ph : Phase) (f₁ : r₁ ≡ PhaseRead.Is ph) (r₂ : LastRead) (e₂ : r₂ ≡ last_read (get_or xs 2 0)) where
-      pub stray-last : OneOf (1 ∷ []) (tag_of last-type r₂) → Stray ≡ machine_of xs
+      pub stray-last : ((v : Last) → r₂ ≡ LastRead.Is v → ⊥) → Stray ≡ machine_of xs
       unfolding machine_of strays
       stray-last t = simp ((mode-stands (get_or xs 0 0) r₀ e₀ mo f₀).0, (phase-stands (get_or xs 1 0) r₁ e₁ ph f₁).0, last-strays (get_or xs 2 0) r₂ e₂ t)
 
@@ -218,7 +211,7 @@ module _ (xs : List ℕ) (r₀ : ModeRead) (e₀ : r₀ ≡ mode_read (get_or xs
         abbrev h₂ : (no_last (get_or xs 2 0) ≡ false) × (la ≡ last_of (get_or xs 2 0))
         h₂ = last-stands (get_or xs 2 0) r₂ e₂ la f₂
 
-        pub stray-again : OneOf (1 ∷ []) (tag_of again-type r₃) → Stray ≡ machine_of xs
+        pub stray-again : ((v : Repeat) → r₃ ≡ AgainRead.Is v → ⊥) → Stray ≡ machine_of xs
         unfolding machine_of strays
         stray-again t = simp (h₀.0, h₁.0, h₂.0, again-strays (get_or xs 3 0) r₃ e₃ t)
 
@@ -226,7 +219,7 @@ module _ (xs : List ℕ) (r₀ : ModeRead) (e₀ : r₀ ≡ mode_read (get_or xs
           abbrev h₃ : (ltb 2 (get_or xs 3 0) ≡ false) × (ag ≡ again_of (get_or xs 3 0))
           h₃ = again-stands (get_or xs 3 0) r₃ e₃ ag f₃
 
-          pub stray-announced : OneOf (1 ∷ []) (tag_of announced-type r₄) → Stray ≡ machine_of xs
+          pub stray-announced : ((v : Bool) → r₄ ≡ AnnouncedRead.Is v → ⊥) → Stray ≡ machine_of xs
           unfolding machine_of strays
           stray-announced t = simp (h₀.0, h₁.0, h₂.0, h₃.0, announced-strays (get_or xs 4 0) r₄ e₄ t)
 

@@ -6,8 +6,6 @@ use mathlib.Core.Bool.{Bool, true, false}
 use mathlib.Core.List.{List, [], ◌∷◌}
 use Prim.Native.Nat.{ℕ, ◌+◌, ◌-◌, ◌≤◌, ◌<◌}
 use native.Mathlib.Omega.{arith}
-use types.Run.{OneOf, miss}
-use denote.Enum.Declared.{tag_of}
 use lib.Dec.{eqb}
 use lib.ListN.{length, get_or, take, drop, length-drop}
 use lib.Seq.{drop-drop}
@@ -28,11 +26,10 @@ use Rattle.contents.specs.Given.{refusal, given_part}
 use Rattle.contents.proofs.Laws.{payload-within as contents-payload-within}
 use Rattle.pes_header.specs.declared.PayloadRead.{PayloadRead}
 use Rattle.pes_header.specs.Payload.{given_payload, later, header_payload, payload_bytes}
-use Rattle.pes_header.specs.contracts.PayloadRead.{the_type}
 
 -- an answer that is not `Done` is a refusal
-pub payload-refusal : (r : PayloadRead) → OneOf (1 ∷ 2 ∷ 3 ∷ 4 ∷ 5 ∷ 6 ∷ []) (tag_of the_type r) → (given_payload r).number ≡ 0 → ⊥
-payload-refusal (PayloadRead.Done p n) k z = miss (1 ∷ 2 ∷ 3 ∷ 4 ∷ 5 ∷ 6 ∷ []) 0 tt k
+pub payload-refusal : (r : PayloadRead) → ((p n : ℕ) → r ≡ PayloadRead.Done p n → ⊥) → (given_payload r).number ≡ 0 → ⊥
+payload-refusal (PayloadRead.Done p n) k z = k p n refl
 payload-refusal PayloadRead.ShortHeader k z = omega arith
 payload-refusal PayloadRead.BadStartCode k z = omega arith
 payload-refusal PayloadRead.ShortContents k z = omega arith
@@ -148,7 +145,7 @@ module _ (xs : List ℕ) where
 
   -- its bytes, by where it is said to lie
   module _ (r : PayloadRead) (g : given_payload r ≡ header_payload xs) where
-    pub no_payload : OneOf (1 ∷ 2 ∷ 3 ∷ 4 ∷ 5 ∷ 6 ∷ []) (tag_of the_type r) → [] ≡ payload_bytes xs
+    pub no_payload : ((p n : ℕ) → r ≡ PayloadRead.Done p n → ⊥) → [] ≡ payload_bytes xs
     unfolding payload_bytes
     no_payload k = part-refused _ _ (λ z. payload-refusal r k (ap (λ (a : Answer). a.number) g ∙ z))
 

@@ -14,7 +14,7 @@ use lib.Dec.{leb, ltb}
 use borrow.Author.Rules.{rules}
 use borrow.Author.Tests.{lt-ltb, le-ltb, lt-leb, le-leb, ltb-true, ltb-false, leb-true, leb-false, ne_eqb}
 use Rattle.bits.specs.Answer.{Answer, answer, pick, truth, placed_at, Check}
-use Rattle.bits.specs.Pack.{Part, joined, bytes_of, number, flat}
+use Rattle.bits.specs.Pack.{joined, bytes_of, number, flat}
 use Rattle.bits.proofs.Bools.{both}
 use Rattle.bits.proofs.Checks.{Off, none-holds, first_holds, accepted-by}
 use Rattle.bits.proofs.Packs.{bytes_of-more, written, length-bytes_of}

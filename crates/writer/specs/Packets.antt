@@ -1,5 +1,5 @@
 -- The packets of a unit, by the tables of the standard: the header, then header and payload cut into parts of 184 bytes.
-use Rattle.std.specs.Prelude.{◌≡◌, List, [], ◌∷◌, ◌++◌, ℕ, zero, suc, ◌+◌, ◌-◌, ◌/◌, ◌%◌, ◌^◌, ◌≤◌, length, take, drop, replicate, ltb}
+use Rattle.std.specs.Prelude.{◌≡◌, List, [], ◌∷◌, ◌++◌, ℕ, zero, suc, ◌+◌, ◌-◌, ◌%◌, ◌≤◌, length, take, drop, replicate, ltb}
 use Rattle.bits.specs.Answer.{pick, truth, placed_at}
 use Rattle.bits.specs.Pack.{Part, part, joined, bytes_of}
 use Rattle.timestamp.specs.Stamp.{stamp_bytes}

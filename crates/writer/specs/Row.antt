@@ -4,7 +4,7 @@
 --   9 ESCR there, 10 base, 11 extension, 12 ES rate there, 13 ES rate, 14 trick mode byte there, 15 the byte,
 --   16 copy info there, 17 copy info, 18 CRC there, 19 CRC
 -- A flag is 0 for no and any other number for yes. The value of a field that is not there is not looked at.
-use Rattle.std.specs.Prelude.{Bool, true, false, not, ◌||◌, List, [], ◌∷◌, ◌++◌, ℕ, ◌+◌, ◌^◌, eqb, leb, ltb, length, get_or}
+use Rattle.std.specs.Prelude.{Bool, false, not, ◌||◌, List, [], ◌∷◌, ◌++◌, ℕ, ◌+◌, ◌^◌, eqb, leb, ltb, length, get_or}
 use Rattle.bits.specs.Answer.{Answer, answer, pick, truth, other}
 use Rattle.bits.specs.Numbers.{out_of_range}
 use Rattle.writer.specs.declared.Route.{Route}

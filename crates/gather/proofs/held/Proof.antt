@@ -1,9 +1,0 @@
-use Rattle.gather.proofs.Laws.{gather_laws}
-use Rattle.gather.proofs.held.Statement.{statement}
-use Rattle.gather.proofs.held.Tie as tie
-
-pub held_spec : {M : Type 1} → statement M
-held_spec {M} =
-    let answers = tie.spec {M = M} (λ c. search gather_laws) (λ c. search gather_laws) (λ c. search gather_laws) (λ c κs. search gather_laws)
-    (λ c. search gather_laws) (λ c. search gather_laws) in
-    tie.close answers

@@ -1,0 +1,12 @@
+use native.Mathlib.Omega.{arith}
+use Rattle.machine.proofs.Rows.{mode-high}
+use Rattle.machine.proofs.row.mode_of.Goals as goal
+
+pub returns-in-0 : goal.returns-in-0
+returns-in-0 c = rw c.in-0.is
+
+pub returns-in-1 : goal.returns-in-1
+returns-in-1 c = rw c.in-1.is
+
+pub returns-in_default : goal.returns-in_default
+returns-in_default c = mode-high _ (omega arith) (omega arith)

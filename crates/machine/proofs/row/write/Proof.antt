@@ -1,8 +1,0 @@
-use Rattle.machine.proofs.Rows.{row_laws}
-use Rattle.machine.proofs.row.write.Statement.{statement}
-use Rattle.machine.proofs.row.write.Tie as tie
-
-pub write_spec : {M : Type 1} → statement M
-write_spec {M} =
-    let answers = tie.spec {M = M} (λ c κs. search row_laws) (λ c κs. search row_laws) (λ c κs. search row_laws) (λ c κs. search row_laws) (λ c. search row_laws) (λ c. search row_laws) (λ c. search row_laws) in
-    tie.close answers

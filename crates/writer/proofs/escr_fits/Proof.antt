@@ -1,9 +1,0 @@
-use Rattle.writer.proofs.Laws.{tests_laws}
-use Rattle.writer.proofs.escr_fits.Statement.{statement}
-use Rattle.writer.proofs.escr_fits.Tie as tie
-
-pub escr_fits_spec : {M : Type 1} → statement M
-escr_fits_spec {M} =
-    let answers = tie.spec {M = M} (λ c. search tests_laws) (λ c. search tests_laws) (λ c. search tests_laws) (λ c. search tests_laws)
-    (λ c. search tests_laws) in
-    tie.close answers

@@ -1,0 +1,29 @@
+use Rattle.writer.proofs.Laws.{field_laws}
+use Rattle.writer.proofs.put_escr.Goals as goal
+
+pub enum_told-1 : goal.enum_told-1
+enum_told-1 c = search field_laws
+
+pub enum_known-escr : goal.enum_known-escr
+enum_known-escr c = search field_laws
+
+pub escr_bytes-bytes-requires : goal.escr_bytes-bytes-requires
+escr_bytes-bytes-requires c = search field_laws
+
+pub slice_bounds-copy_at-end : goal.slice_bounds-copy_at-end
+slice_bounds-copy_at-end c = search field_laws
+
+pub copy_at-requires : goal.copy_at-requires
+copy_at-requires c = search field_laws
+
+pub overflow_add-result : goal.overflow_add-result
+overflow_add-result c = search field_laws
+
+pub returns-in-Absent : goal.returns-in-Absent
+returns-in-Absent c = search field_laws
+
+pub shape_of-head : goal.shape_of-head
+shape_of-head c = search field_laws
+
+pub returns-in-Present : goal.returns-in-Present
+returns-in-Present c = search field_laws

@@ -1,9 +1,0 @@
-use Rattle.writer.proofs.Rows.{row_laws}
-use Rattle.writer.proofs.row.times_in.Statement.{statement}
-use Rattle.writer.proofs.row.times_in.Tie as tie
-
-pub times_in_spec : {M : Type 1} → statement M
-times_in_spec {M} =
-    let answers = tie.spec {M = M} (λ c. search row_laws) (λ c. search row_laws) (λ c. search row_laws) (λ c. search row_laws)
-    (λ c. search row_laws) (λ c. search row_laws) (λ c. search row_laws) in
-    tie.close answers
