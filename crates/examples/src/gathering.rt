@@ -1,77 +1,92 @@
 // The gathering store: a line for each event, with the number and the fields of the state after it and the bytes so far.
 use crate::machines::{ENTRIES, LOG};
 use crate::{machines, packets, show};
-use gather::{Gathered, Gathering, Lies, Verdict};
 use event_log::{EntryRead, Event};
+use gather::{Gathered, Gathering, Lies, Verdict};
 use machine::Machine;
+use std::io;
 
 // ---- lines
 
-fn number(v: Verdict) {
+fn number(rt: &impl Print, v: Verdict) -> io::Result<()> {
     match v {
-        Verdict::Done => show::number(0),
-        Verdict::WrongLength => show::number(1),
-        Verdict::NoSync => show::number(2),
-        Verdict::OutOfRange => show::number(14),
-        Verdict::StoreFull => show::number(20),
+        Verdict::Done => show::number(rt, 0),
+        Verdict::WrongLength => show::number(rt, 1),
+        Verdict::NoSync => show::number(rt, 2),
+        Verdict::OutOfRange => show::number(rt, 14),
+        Verdict::StoreFull => show::number(rt, 20),
     }
 }
 
-fn lying(lies: Lies) {
+fn lying(rt: &impl Print, lies: Lies) -> io::Result<()> {
     match lies {
-        Lies::Packet(place) => show::number(place as u64),
-        Lies::Store => show::number(255),
+        Lies::Packet(place) => show::number(rt, place as u64),
+        Lies::Store => show::number(rt, 255),
     }
 }
 
-fn answer(s: Gathered) {
+fn answer(rt: &impl Print, s: Gathered) -> io::Result<()> {
     let v = s.verdict;
     let g = s.gathering;
     let opened = g.opened;
     let lies = g.lies;
-    number(v);
-    show::two(opened as u64, g.count as u64);
-    lying(lies);
-    show::comma();
+    number(rt, v)?;
+    show::two(rt, opened as u64, g.count as u64)?;
+    lying(rt, lies)?;
+    show::comma(rt)
 }
 
-fn so_far<'a>(g: Gathering, packet: &'a [u8], store: &'a [u8]) {
-    show::bytes(gather::bytes(g, packet, store));
-    show::end();
+fn so_far<'a>(rt: &impl Print, g: Gathering, packet: &'a [u8], store: &'a [u8]) -> io::Result<()> {
+    show::bytes(rt, gather::bytes(g, packet, store))?;
+    show::end(rt)
 }
 
 // ---- calls
 
-fn take(g: Gathering, packet: &[u8], e: Event, store: &mut [u8]) -> Gathering {
-    show::words(b"gather");
-    machines::event(e);
-    show::comma();
+fn take(
+    rt: &impl Print,
+    g: Gathering,
+    packet: &[u8],
+    e: Event,
+    store: &mut [u8],
+) -> io::Result<Gathering> {
+    show::words(rt, b"gather")?;
+    machines::event(rt, e)?;
+    show::comma(rt)?;
     let s = gather::gather(g, packet, e, store);
-    answer(s);
+    answer(rt, s)?;
     let next = s.gathering;
-    so_far(next, packet, store);
-    next
+    so_far(rt, next, packet, store)?;
+    Ok(next)
 }
 
 // The event at a place of the log, with its packet.
-fn entry(g: Gathering, stream: &[u8], log: &[u8; LOG], at: usize, store: &mut [u8]) -> Gathering {
+fn entry(
+    rt: &impl Print,
+    g: Gathering,
+    stream: &[u8],
+    log: &[u8; LOG],
+    at: usize,
+    store: &mut [u8],
+) -> io::Result<Gathering> {
     match event_log::entry_at(log, at) {
-        EntryRead::Done(e) => take(g, packets::packet(stream, e.index), e, store),
-        EntryRead::OutOfRange => g,
+        EntryRead::Done(e) => take(rt, g, packets::packet(stream, e.index), e, store),
+        EntryRead::OutOfRange => Ok(g),
     }
 }
 
-fn entries(stream: &[u8], log: &[u8; LOG], store: &mut [u8]) {
+fn entries(rt: &impl Print, stream: &[u8], log: &[u8; LOG], store: &mut [u8]) -> io::Result<()> {
     let mut g = Gathering::new();
     for i in 0..ENTRIES {
-        g = entry(g, stream, log, i * 8, store);
+        g = entry(rt, g, stream, log, i * 8, store)?;
     }
+    Ok(())
 }
 
 // The first unit of the example has 354 bytes.
-pub fn run(stream: &[u8]) {
+pub fn run(rt: &impl Print, stream: &[u8]) -> io::Result<()> {
     let mut log = [0u8; LOG];
     machine::run(Machine::new(), packets::three(stream), &mut log);
     let mut store = [0u8; 354];
-    entries(stream, &log, &mut store);
+    entries(rt, stream, &log, &mut store)
 }

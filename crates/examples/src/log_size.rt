@@ -7,6 +7,7 @@ ghost use Rattle.bounds.specs.Reaching.{eventful};
 use crate::{machines, show};
 use bits::{copy_at, part};
 use machine::{Machine, Stepped, Verdict};
+use std::io;
 
 // The most packets, their bytes, and the longest log.
 const MOST: usize = 3000;
@@ -64,30 +65,37 @@ fn fill(row: Row, bytes: &mut [u8]) {
 
 // ---- calls
 
-fn line(call: &[u8], from: &[u8], row: Row, log: &[u8]) {
-    show::words(call);
-    show::words(from);
-    show::two(row.starts as u64, row.packets as u64);
-    show::number(log.len() as u64);
-    show::comma();
+fn line(rt: &impl Print, call: &[u8], from: &[u8], row: Row, log: &[u8]) -> io::Result<()> {
+    show::words(rt, call)?;
+    show::words(rt, from)?;
+    show::two(rt, row.starts as u64, row.packets as u64)?;
+    show::number(rt, log.len() as u64)?;
+    show::comma(rt)
 }
 
-fn after(m: Machine) {
-    show::two(m.taken as u64, m.place as u64);
-    show::end();
+fn after(rt: &impl Print, m: Machine) -> io::Result<()> {
+    show::two(rt, m.taken as u64, m.place as u64)?;
+    show::end(rt)
 }
 
 // All by one call.
-fn run_all(from: &[u8], m: Machine, row: Row, bytes: &[u8], log: &mut [u8]) {
-    line(b"log_size run ", from, row, log);
+fn run_all(
+    rt: &impl Print,
+    from: &[u8],
+    m: Machine,
+    row: Row,
+    bytes: &[u8],
+    log: &mut [u8],
+) -> io::Result<()> {
+    line(rt, b"log_size run ", from, row, log)?;
     let r = machine::run(m, bytes, log);
     let v = r.verdict;
     let ended = r.ended;
-    machines::number(v);
-    show::number(r.packets as u64);
-    machines::number(ended);
-    show::comma();
-    after(r.machine);
+    machines::number(rt, v)?;
+    show::number(rt, r.packets as u64)?;
+    machines::number(rt, ended)?;
+    show::comma(rt)?;
+    after(rt, r.machine)
 }
 
 fn step_one(s: Stepped, row: Row, i: usize, log: &mut [u8]) -> Stepped
@@ -113,35 +121,50 @@ fn stepped(m: Machine, row: Row, log: &mut [u8]) -> Stepped {
     s
 }
 
-fn step_all(from: &[u8], m: Machine, row: Row, log: &mut [u8]) {
-    line(b"log_size step ", from, row, log);
+fn step_all(rt: &impl Print, from: &[u8], m: Machine, row: Row, log: &mut [u8]) -> io::Result<()> {
+    line(rt, b"log_size step ", from, row, log)?;
     let s = stepped(m, row, log);
     let v = s.verdict;
-    machines::number(v);
-    show::comma();
-    after(s.machine);
+    machines::number(rt, v)?;
+    show::comma(rt)?;
+    after(rt, s.machine)
 }
 
 // Both ways, with a log of so many bytes.
-fn both(from: &[u8], m: Machine, row: Row, bytes: &[u8], log: &mut [u8], room: usize) {
+fn both(
+    rt: &impl Print,
+    from: &[u8],
+    m: Machine,
+    row: Row,
+    bytes: &[u8],
+    log: &mut [u8],
+    room: usize,
+) -> io::Result<()> {
     if log.len() < room {
-        return;
+        return Ok(());
     }
-    run_all(from, m, row, bytes, &mut log[0..room]);
-    step_all(from, m, row, &mut log[0..room]);
+    run_all(rt, from, m, row, bytes, &mut log[0..room])?;
+    step_all(rt, from, m, row, &mut log[0..room])
 }
 
-fn show_row(from: &[u8], m: Machine, row: Row, enough: usize, short: usize) {
+fn show_row(
+    rt: &impl Print,
+    from: &[u8],
+    m: Machine,
+    row: Row,
+    enough: usize,
+    short: usize,
+) -> io::Result<()> {
     let packets = row.packets;
     if MOST < packets {
-        return;
+        return Ok(());
     }
     let size = packets * 188;
     let mut bytes = [0u8; BYTES];
     fill(row, &mut bytes);
     let mut log = [0u8; LOG];
-    both(from, m, row, part(&bytes, 0, size), &mut log, enough);
-    both(from, m, row, part(&bytes, 0, size), &mut log, short);
+    both(rt, from, m, row, part(&bytes, 0, size), &mut log, enough)?;
+    both(rt, from, m, row, part(&bytes, 0, size), &mut log, short)
 }
 
 fn of(starts: usize, packets: usize, counter: usize) -> Row {
@@ -153,26 +176,26 @@ fn of(starts: usize, packets: usize, counter: usize) -> Row {
 }
 
 // A stream from its first packet on, in a mode.
-fn from_first(from: &[u8], m: Machine) {
-    show_row(from, m, of(1, 1, 0), 16, 8);
-    show_row(from, m, of(1, 7, 0), 64, 56);
-    show_row(from, m, of(5, 5, 0), 80, 72);
-    show_row(from, m, of(1000, 3000, 0), 32000, 31992);
+fn from_first(rt: &impl Print, from: &[u8], m: Machine) -> io::Result<()> {
+    show_row(rt, from, m, of(1, 1, 0), 16, 8)?;
+    show_row(rt, from, m, of(1, 7, 0), 64, 56)?;
+    show_row(rt, from, m, of(5, 5, 0), 80, 72)?;
+    show_row(rt, from, m, of(1000, 3000, 0), 32000, 31992)
 }
 
 // The standard mode after one packet with counter 5 and no start flag: the next one is a break, and the stream was not announced.
-fn from_waiting() {
+fn from_waiting(rt: &impl Print) -> io::Result<()> {
     let mut log = [0u8; 0];
     let s = machine::step(Machine::standard(), &packet(false, 5), &mut log);
     let m = s.machine;
-    show_row(b"waiting", m, of(1, 1, 7), 24, 16);
-    show_row(b"waiting", m, of(1, 7, 7), 72, 64);
-    show_row(b"waiting", m, of(5, 5, 7), 88, 80);
-    show_row(b"waiting", m, of(1000, 3000, 7), 32008, 32000);
+    show_row(rt, b"waiting", m, of(1, 1, 7), 24, 16)?;
+    show_row(rt, b"waiting", m, of(1, 7, 7), 72, 64)?;
+    show_row(rt, b"waiting", m, of(5, 5, 7), 88, 80)?;
+    show_row(rt, b"waiting", m, of(1000, 3000, 7), 32008, 32000)
 }
 
-pub fn run() {
-    from_first(b"crate", Machine::new());
-    from_first(b"standard", Machine::standard());
-    from_waiting();
+pub fn run(rt: &impl Print) -> io::Result<()> {
+    from_first(rt, b"crate", Machine::new())?;
+    from_first(rt, b"standard", Machine::standard())?;
+    from_waiting(rt)
 }

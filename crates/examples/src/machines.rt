@@ -3,6 +3,7 @@ use crate::{own_state, packets, show};
 use bits::{copy_at, part, wide};
 use event_log::{EntryRead, Event};
 use machine::{Last, Machine, Mode, Phase, Repeat, Verdict};
+use std::io;
 
 // Room for one entry more than the example has.
 pub const ENTRIES: usize = 6;
@@ -11,120 +12,129 @@ pub const LOG: usize = 48;
 
 // ---- lines
 
-pub fn number(v: Verdict) {
+pub fn number(rt: &impl Print, v: Verdict) -> io::Result<()> {
     match v {
-        Verdict::Done => show::number(0),
-        Verdict::WrongLength => show::number(1),
-        Verdict::NoSync => show::number(2),
-        Verdict::OutOfRange => show::number(14),
-        Verdict::IndexFull => show::number(16),
-        Verdict::LogFull => show::number(15),
+        Verdict::Done => show::number(rt, 0),
+        Verdict::WrongLength => show::number(rt, 1),
+        Verdict::NoSync => show::number(rt, 2),
+        Verdict::OutOfRange => show::number(rt, 14),
+        Verdict::IndexFull => show::number(rt, 16),
+        Verdict::LogFull => show::number(rt, 15),
     }
 }
 
-fn mode(m: Mode) {
+fn mode(rt: &impl Print, m: Mode) -> io::Result<()> {
     match m {
-        Mode::Crate => show::number(0),
-        Mode::Standard => show::number(1),
+        Mode::Crate => show::number(rt, 0),
+        Mode::Standard => show::number(rt, 1),
     }
 }
 
-fn phase(p: Phase) {
+fn phase(rt: &impl Print, p: Phase) -> io::Result<()> {
     match p {
-        Phase::Begin => show::number(0),
-        Phase::Started => show::number(1),
-        Phase::IgnoreRest => show::number(2),
+        Phase::Begin => show::number(rt, 0),
+        Phase::Started => show::number(rt, 1),
+        Phase::IgnoreRest => show::number(rt, 2),
     }
 }
 
-fn last(l: Last) {
+fn last(rt: &impl Print, l: Last) -> io::Result<()> {
     match l {
-        Last::Nothing => show::number(255),
-        Last::At(counter) => show::number(wide(counter.count())),
+        Last::Nothing => show::number(rt, 255),
+        Last::At(counter) => show::number(rt, wide(counter.count())),
     }
 }
 
-fn again(r: Repeat) {
+fn again(rt: &impl Print, r: Repeat) -> io::Result<()> {
     match r {
-        Repeat::Barred => show::number(0),
-        Repeat::Open => show::number(1),
-        Repeat::Spent => show::number(2),
+        Repeat::Barred => show::number(rt, 0),
+        Repeat::Open => show::number(rt, 1),
+        Repeat::Spent => show::number(rt, 2),
     }
 }
 
-pub fn event(e: Event) {
-    show::two(wide(e.kind), e.index as u64);
-    show::two(wide(e.place), wide(e.length));
+pub fn event(rt: &impl Print, e: Event) -> io::Result<()> {
+    show::two(rt, wide(e.kind), e.index as u64)?;
+    show::two(rt, wide(e.place), wide(e.length))
 }
 
 // The entry at a place of the log, if there is one: bytes of 0 are none.
-fn entry(log: &[u8; LOG], at: usize) {
+fn entry(rt: &impl Print, log: &[u8; LOG], at: usize) -> io::Result<()> {
     if let EntryRead::Done(e) = event_log::entry_at(log, at) {
-        show::comma();
-        event(e);
+        show::comma(rt)?;
+        event(rt, e)?;
     }
+    Ok(())
 }
 
-fn entries(log: &[u8; LOG]) {
+fn entries(rt: &impl Print, log: &[u8; LOG]) -> io::Result<()> {
     for i in 0..ENTRIES {
-        entry(log, i * 8);
+        entry(rt, log, i * 8)?;
     }
+    Ok(())
 }
 
-fn state(m: Machine, log: &[u8; LOG]) {
+fn state(rt: &impl Print, m: Machine, log: &[u8; LOG]) -> io::Result<()> {
     let o = m.mode;
     let p = m.phase;
     let l = m.last;
     let r = m.again;
-    mode(o);
-    phase(p);
-    last(l);
-    again(r);
-    show::number(m.announced as u64);
-    show::two(m.taken as u64, m.place as u64);
-    entries(log);
-    show::end();
+    mode(rt, o)?;
+    phase(rt, p)?;
+    last(rt, l)?;
+    again(rt, r)?;
+    show::number(rt, m.announced as u64)?;
+    show::two(rt, m.taken as u64, m.place as u64)?;
+    entries(rt, log)?;
+    show::end(rt)
 }
 
 // ---- calls
 
-pub fn step(call: &[u8], m: Machine, packet: &[u8], log: &mut [u8; LOG]) -> Machine {
+pub fn step(
+    rt: &impl Print,
+    call: &[u8],
+    m: Machine,
+    packet: &[u8],
+    log: &mut [u8; LOG],
+) -> io::Result<Machine> {
     let s = own_state::step(m, packet, log);
     let v = s.verdict;
     let after = s.machine;
-    show::words(call);
-    number(v);
-    state(after, log);
-    after
+    show::words(rt, call)?;
+    number(rt, v)?;
+    state(rt, after, log)?;
+    Ok(after)
 }
 
 // The four packets, one a call.
-fn steps(call: &[u8], m: Machine, stream: &[u8]) {
+fn steps(rt: &impl Print, call: &[u8], m: Machine, stream: &[u8]) -> io::Result<()> {
     let mut log = [0u8; LOG];
     let mut state = m;
     for i in 0..4 {
-        state = step(call, state, packets::packet(stream, i), &mut log);
+        state = step(rt, call, state, packets::packet(stream, i), &mut log)?;
     }
+    Ok(())
 }
 
 // Packets, all by one call.
-pub fn all(call: &[u8], m: Machine, bytes: &[u8]) {
+pub fn all(rt: &impl Print, call: &[u8], m: Machine, bytes: &[u8]) -> io::Result<()> {
     let mut log = [0u8; LOG];
     let r = machine::run(m, bytes, &mut log);
     let v = r.verdict;
     let ended = r.ended;
-    show::words(call);
-    number(v);
-    show::number(r.packets as u64);
-    number(ended);
-    state(r.machine, &log);
+    show::words(rt, call)?;
+    number(rt, v)?;
+    show::number(rt, r.packets as u64)?;
+    number(rt, ended)?;
+    state(rt, r.machine, &log)
 }
 
 // A packet that is taken, and after it one with no sync byte, which ends the run and is no refusal of it.
-fn cut_short(stream: &[u8]) {
+fn cut_short(rt: &impl Print, stream: &[u8]) -> io::Result<()> {
     let mut bytes = [0u8; 376];
     copy_at(packets::packet(stream, 0), &mut bytes, 0);
-    all(b"run no_sync", Machine::new(), &bytes);
+    all(rt, b"run no_sync", Machine::new(), &bytes)
 }
 
 // A state that is refused: no entry begins at a place of 3.
@@ -140,19 +150,26 @@ fn between_entries() -> Machine {
     }
 }
 
-pub fn run(stream: &[u8]) {
-    steps(b"step_in_place", Machine::new(), stream);
-    steps(b"step_in_place between_entries", between_entries(), stream);
-    all(b"run", Machine::new(), packets::three(stream));
-    cut_short(stream);
+pub fn run(rt: &impl Print, stream: &[u8]) -> io::Result<()> {
+    steps(rt, b"step_in_place", Machine::new(), stream)?;
+    steps(
+        rt,
+        b"step_in_place between_entries",
+        between_entries(),
+        stream,
+    )?;
+    all(rt, b"run", Machine::new(), packets::three(stream))?;
+    cut_short(rt, stream)?;
     all(
+        rt,
         b"run between_entries 187_bytes",
         between_entries(),
         part(stream, 0, 187),
-    );
+    )?;
     all(
+        rt,
         b"run between_entries no_bytes",
         between_entries(),
         part(stream, 0, 0),
-    );
+    )
 }

@@ -13,12 +13,14 @@ mod repeats;
 mod show;
 mod timestamps;
 
-fn main() {
-    timestamps::run();
-    headers::run();
+use std::io;
+
+fn main(rt: HostRuntime) -> io::Result<()> {
+    timestamps::run(&rt)?;
+    headers::run(&rt)?;
     let stream = packets::stream();
-    machines::run(&stream);
-    repeats::run();
-    gathering::run(&stream);
-    log_size::run();
+    machines::run(&rt, &stream)?;
+    repeats::run(&rt)?;
+    gathering::run(&rt, &stream)?;
+    log_size::run(&rt)
 }

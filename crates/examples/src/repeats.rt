@@ -4,6 +4,7 @@ use crate::machines;
 use crate::machines::LOG;
 use bits::{copy_at, part};
 use machine::{Last, Machine, Mode, Phase, Repeat};
+use std::io;
 
 // The most packets of a row, and their bytes.
 const MOST: usize = 5;
@@ -28,14 +29,15 @@ fn packet(code: u8) -> [u8; 188] {
     p
 }
 
-fn steps(call: &[u8], codes: &[u8]) {
+fn steps(rt: &impl Print, call: &[u8], codes: &[u8]) -> io::Result<()> {
     let mut log = [0u8; LOG];
     let mut state = Machine::standard();
     for i in 0..MOST {
         if i < codes.len() {
-            state = machines::step(call, state, &packet(codes[i]), &mut log);
+            state = machines::step(rt, call, state, &packet(codes[i]), &mut log)?;
         }
     }
+    Ok(())
 }
 
 // The packet of a code in its place, if the row has it.
@@ -55,19 +57,19 @@ fn size(codes: &[u8]) -> usize {
     codes.len() * 188
 }
 
-fn all(call: &[u8], codes: &[u8]) {
+fn all(rt: &impl Print, call: &[u8], codes: &[u8]) -> io::Result<()> {
     let mut bytes = [0u8; BYTES];
     put(codes, 0, &mut bytes);
     put(codes, 1, &mut bytes);
     put(codes, 2, &mut bytes);
     put(codes, 3, &mut bytes);
     put(codes, 4, &mut bytes);
-    machines::all(call, Machine::standard(), part(&bytes, 0, size(codes)));
+    machines::all(rt, call, Machine::standard(), part(&bytes, 0, size(codes)))
 }
 
-fn row(call: &[u8], codes: &[u8]) {
-    steps(call, codes);
-    all(call, codes);
+fn row(rt: &impl Print, call: &[u8], codes: &[u8]) -> io::Result<()> {
+    steps(rt, call, codes)?;
+    all(rt, call, codes)
 }
 
 // Within a unit whose stream was not announced, at a place of the log.
@@ -84,34 +86,37 @@ fn not_announced(place: usize) -> Machine {
 }
 
 // A start there has three events. The log has room for two of them after the first place, and for three after the second.
-fn three() {
+fn three(rt: &impl Print) -> io::Result<()> {
     let mut log = [0u8; LOG];
     let start = packet(0x55);
     machines::step(
+        rt,
         b"standard room_for_two",
         not_announced(32),
         &start,
         &mut log,
-    );
+    )?;
     machines::step(
+        rt,
         b"standard room_for_three",
         not_announced(24),
         &start,
         &mut log,
-    );
+    )?;
+    Ok(())
 }
 
-pub fn run() {
-    row(b"standard P5_P5_P5_P5_P5", b"\x15\x15\x15\x15\x15");
-    row(b"standard P5_A5_P5", b"\x15\x25\x15");
-    row(b"standard A5_P5", b"\x25\x15");
-    row(b"standard P5_P5_P6_P6", b"\x15\x15\x16\x16");
-    row(b"standard P5_D9_P9_P10", b"\x15\x39\x19\x1A");
-    row(b"standard P5_D5", b"\x15\x35");
-    row(b"standard P5_P5_A5_P5", b"\x15\x15\x25\x15");
-    row(b"standard P5_S5", b"\x15\x55");
-    row(b"standard P5_P9_S10", b"\x15\x19\x5A");
-    row(b"standard P5_S9", b"\x15\x59");
-    row(b"standard P5_S5_S5", b"\x15\x55\x55");
-    three();
+pub fn run(rt: &impl Print) -> io::Result<()> {
+    row(rt, b"standard P5_P5_P5_P5_P5", b"\x15\x15\x15\x15\x15")?;
+    row(rt, b"standard P5_A5_P5", b"\x15\x25\x15")?;
+    row(rt, b"standard A5_P5", b"\x25\x15")?;
+    row(rt, b"standard P5_P5_P6_P6", b"\x15\x15\x16\x16")?;
+    row(rt, b"standard P5_D9_P9_P10", b"\x15\x39\x19\x1A")?;
+    row(rt, b"standard P5_D5", b"\x15\x35")?;
+    row(rt, b"standard P5_P5_A5_P5", b"\x15\x15\x25\x15")?;
+    row(rt, b"standard P5_S5", b"\x15\x55")?;
+    row(rt, b"standard P5_P9_S10", b"\x15\x19\x5A")?;
+    row(rt, b"standard P5_S9", b"\x15\x59")?;
+    row(rt, b"standard P5_S5_S5", b"\x15\x55\x55")?;
+    three(rt)
 }

@@ -1,33 +1,33 @@
 // A line: words, then numbers, in groups between commas.
 use bits::wide;
-use libc::STDOUT_FILENO;
+use std::io;
 
-pub fn words(text: &[u8]) {
-    io::write_all(STDOUT_FILENO, text);
+pub fn words(rt: &impl Print, text: &[u8]) -> io::Result<()> {
+    rt.write_all(text)
 }
 
-pub fn number(n: u64) {
-    words(b" ");
-    io::print_decimal(STDOUT_FILENO, n);
+pub fn number(rt: &impl Print, n: u64) -> io::Result<()> {
+    print!(rt; " {n}")
 }
 
-pub fn two(m: u64, n: u64) {
-    number(m);
-    number(n);
+pub fn two(rt: &impl Print, m: u64, n: u64) -> io::Result<()> {
+    number(rt, m)?;
+    number(rt, n)
 }
 
 // Bytes: how many, and the first.
-pub fn bytes(b: &[u8]) {
-    number(b.len() as u64);
+pub fn bytes(rt: &impl Print, b: &[u8]) -> io::Result<()> {
+    number(rt, b.len() as u64)?;
     if 0 < b.len() {
-        number(wide(b[0]));
+        number(rt, wide(b[0]))?;
     }
+    Ok(())
 }
 
-pub fn comma() {
-    words(b",");
+pub fn comma(rt: &impl Print) -> io::Result<()> {
+    words(rt, b",")
 }
 
-pub fn end() {
-    words(b"\n");
+pub fn end(rt: &impl Print) -> io::Result<()> {
+    words(rt, b"\n")
 }

@@ -1,40 +1,41 @@
 // Timestamps. An answer is shown by its number and values.
 use crate::show;
 use bits::wide;
+use std::io;
 use timestamp::{Timestamp, TimestampRead};
 
-fn shown(r: TimestampRead) {
+fn shown(rt: &impl Print, r: TimestampRead) -> io::Result<()> {
     match r {
-        TimestampRead::Done(t) => show::two(0, t.value()),
-        TimestampRead::WrongLength => show::number(1),
+        TimestampRead::Done(t) => show::two(rt, 0, t.value()),
+        TimestampRead::WrongLength => show::number(rt, 1),
         TimestampRead::IncorrectPrefixBits { expected, actual } => {
-            show::number(13);
-            show::two(wide(expected), wide(actual));
+            show::number(rt, 13)?;
+            show::two(rt, wide(expected), wide(actual))
         }
-        TimestampRead::MarkerBitNotSet { bit_number } => show::two(12, wide(bit_number)),
-    }
-    show::end();
+        TimestampRead::MarkerBitNotSet { bit_number } => show::two(rt, 12, wide(bit_number)),
+    }?;
+    show::end(rt)
 }
 
-fn constants() {
-    show::words(b"timestamp max");
-    show::number(Timestamp::MAX.value());
-    show::end();
-    show::words(b"timestamp timebase");
-    show::number(Timestamp::TIMEBASE);
-    show::end();
+fn constants(rt: &impl Print) -> io::Result<()> {
+    show::words(rt, b"timestamp max")?;
+    show::number(rt, Timestamp::MAX.value())?;
+    show::end(rt)?;
+    show::words(rt, b"timestamp timebase")?;
+    show::number(rt, Timestamp::TIMEBASE)?;
+    show::end(rt)
 }
 
 // An easy error: the PTS of a pair has the prefix 0011, and from_pts_bytes wants 0010.
-fn pts_of_a_pair() {
+fn pts_of_a_pair(rt: &impl Print) -> io::Result<()> {
     let pts = [0x31, 0x00, 0x05, 0xBF, 0x21];
-    show::words(b"timestamp pair from_pts_bytes");
-    shown(Timestamp::from_pts_bytes(&pts));
-    show::words(b"timestamp pair from_bytes");
-    shown(Timestamp::from_bytes(&pts));
+    show::words(rt, b"timestamp pair from_pts_bytes")?;
+    shown(rt, Timestamp::from_pts_bytes(&pts))?;
+    show::words(rt, b"timestamp pair from_bytes")?;
+    shown(rt, Timestamp::from_bytes(&pts))
 }
 
-pub fn run() {
-    constants();
-    pts_of_a_pair();
+pub fn run(rt: &impl Print) -> io::Result<()> {
+    constants(rt)?;
+    pts_of_a_pair(rt)
 }

@@ -1,5 +1,5 @@
 // Packets in, lines on the page out.
-ghost use Rattle.std.specs.Prelude.{◌≡◌};
+ghost use Rattle.std.specs.Prelude.{◌≡◌, IfOk};
 ghost use Rattle.bits.specs.Numbers.{log_full};
 ghost use Rattle.machine.specs.Step.{verdict_number};
 
@@ -7,6 +7,8 @@ use crate::lines;
 use crate::lines::LOG;
 use machine::{Machine, Stepped, Verdict};
 use page::PAGE;
+use std::io;
+use std::io::Write;
 
 // The machine after the packets so far, how many bytes at the start of the block are held for a packet that is not whole yet, how
 // much of the page is used, and whether more may come.
@@ -55,7 +57,12 @@ fn step(mut m: Machine, packet: &[u8], log: &mut [u8; LOG]) -> Stepped
 
 // A packet's events, or its refusal, after which nothing comes. On a refusal the machine stays, so the packets that it has taken are
 // as many as the packet's index.
-fn take(packet: &[u8], page: &mut [u8; PAGE], mut list: List) -> List {
+fn take(
+    packet: &[u8],
+    out: &mut impl Write,
+    page: &mut [u8; PAGE],
+    mut list: List,
+) -> io::Result<List> {
     let mut log = [0u8; LOG];
     let m = list.machine;
     let s = step(m, packet, &mut log);
@@ -64,37 +71,47 @@ fn take(packet: &[u8], page: &mut [u8; PAGE], mut list: List) -> List {
     let n = number(v);
     list.machine = after;
     if n == 0 {
-        list.used = lines::events(page, list.used, &log, after.place);
+        list.used = lines::events(out, page, list.used, &log, after.place)?;
     } else {
-        list.used = lines::refused(page, list.used, after.taken, n);
+        list.used = lines::refused(out, page, list.used, after.taken, n)?;
         list.more = false;
     }
-    list
+    Ok(list)
 }
 
 // Every whole packet of the bytes, up to one that is refused.
-pub fn packets(bytes: &[u8], page: &mut [u8; PAGE], mut list: List) -> List {
+pub fn packets(
+    bytes: &[u8],
+    out: &mut impl Write,
+    page: &mut [u8; PAGE],
+    mut list: List,
+) -> io::Result<List> {
     let mut at = 0;
     let mut left = bytes.len() / 188;
     while left > 0 && list.more {
-        list = take(&bytes[at..at + 188], page, list);
+        list = take(&bytes[at..at + 188], out, page, list)?;
         at += 188;
         left -= 1;
     }
-    list
+    Ok(list)
 }
 
 // The end of the input: bytes that make no whole packet are refused as a packet of a wrong length.
-pub fn end(tail: &[u8], page: &mut [u8; PAGE], mut list: List) -> List
-    ensures { result.held ≡ 0 }
+pub fn end(
+    tail: &[u8],
+    out: &mut impl Write,
+    page: &mut [u8; PAGE],
+    mut list: List,
+) -> io::Result<List>
+    ensures { IfOk result (λ after. after.held ≡ 0) }
 {
     if tail.len() > 0 {
-        list = take(tail, page, list);
+        list = take(tail, out, page, list)?;
     } else {
         let m = list.machine;
-        list.used = lines::packets(page, list.used, m.taken);
+        list.used = lines::packets(out, page, list.used, m.taken)?;
     }
     list.held = 0;
     list.more = false;
-    list
+    Ok(list)
 }

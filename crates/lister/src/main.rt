@@ -4,11 +4,16 @@
 mod lines;
 mod listing;
 
-ghost use Rattle.std.specs.Prelude.{◌≤◌, length};
+ghost use Rattle.std.specs.Prelude.{◌≤◌, length, IfOk};
 
-use libc::{STDERR_FILENO, STDIN_FILENO};
 use listing::List;
 use page::PAGE;
+use std::io;
+use std::io::{ErrorKind, Read, Write};
+use std::process::ExitCode;
+
+// How much is read at a time.
+const BLOCK: usize = 65536;
 
 // Moves the bytes after the whole packets to the start of the block, and gives back how many there are. So a packet that lies whole
 // in a block is not copied, and one that crosses blocks is made whole by the next read.
@@ -27,42 +32,82 @@ fn keep(block: &mut [u8], filled: usize) -> usize
 }
 
 // Reads once, behind the bytes that are held. A read that fails is not the end of the input: the list has no last line then.
-fn turn(block: &mut [u8], page: &mut [u8; PAGE], mut list: List) -> List
+fn turn(
+    rt: &impl Eprint,
+    input: &mut impl Read,
+    block: &mut [u8],
+    out: &mut impl Write,
+    page: &mut [u8; PAGE],
+    mut list: List,
+) -> io::Result<List>
     requires { list.held ≤ length block.old }
-    ensures { result.held ≤ length block.new }
+    ensures { IfOk result (λ after. after.held ≤ length block.new) }
 {
     let held = list.held;
-    let got = libc::read(STDIN_FILENO, &mut block[held..]);
-    if got < 0 {
-        io::write_all(STDERR_FILENO, b"lister: standard input cannot be read\n");
-        list.more = false;
-        return list;
-    }
-    let filled = held + io::count(got, &block[held..]);
+    let got = match input.read(&mut block[held..]) {
+        Ok(count) => count,
+        Err(_) => {
+            // a message that cannot be written is lost
+            let _ = eprintln!(rt; "lister: standard input cannot be read");
+            list.more = false;
+            return Ok(list);
+        }
+    };
+    let filled = held + got;
     if filled == held {
-        return listing::end(&block[0..held], page, list);
+        return listing::end(&block[0..held], out, page, list);
     }
-    let mut next = listing::packets(&block[0..filled], page, list);
+    let mut next = listing::packets(&block[0..filled], out, page, list)?;
     next.held = keep(block, filled);
-    next
+    Ok(next)
 }
 
 // A proved loop ends, and nothing says that the input does: so the turns count down from a number that no run uses up.
-fn turns(block: &mut [u8], page: &mut [u8; PAGE], mut list: List) -> List
+fn turns(
+    rt: &impl Eprint,
+    input: &mut impl Read,
+    block: &mut [u8],
+    out: &mut impl Write,
+    page: &mut [u8; PAGE],
+    mut list: List,
+) -> io::Result<List>
     requires { list.held ≤ length block.old }
 {
     let mut left = u64::MAX;
     while left > 0 && list.more {
-        list = turn(block, page, list);
+        list = turn(rt, input, block, out, page, list)?;
         left -= 1;
     }
-    list
+    Ok(list)
 }
 
-fn main() {
-    let mut block = io::large_buffer();
+fn run(rt: &(impl Input + Print + Eprint)) -> io::Result<()> {
+    let mut input = rt.reader();
+    let mut out = io::writer(rt);
+    let mut block = [0u8; BLOCK];
     let mut page = [0u8; PAGE];
-    let used = lines::title(&mut page, 0);
-    let list = turns(&mut block, &mut page, List::new(used));
-    page::flush(&page, list.used);
+    let used = lines::title(&mut out, &mut page, 0)?;
+    let list = turns(
+        rt,
+        &mut input,
+        &mut block,
+        &mut out,
+        &mut page,
+        List::new(used),
+    )?;
+    page::flush(&mut out, &page, list.used)?;
+    Ok(())
+}
+
+// A list that cannot be written is said, but where the reader of a pipe has gone.
+fn main(rt: HostRuntime) -> ExitCode {
+    match run(&rt) {
+        Ok(()) => ExitCode::SUCCESS,
+        Err(e) => {
+            if e.kind() != ErrorKind::BrokenPipe {
+                let _ = eprintln!(rt; "lister: standard output cannot be written");
+            }
+            ExitCode::FAILURE
+        }
+    }
 }

@@ -13,8 +13,12 @@ mod timestamps;
 
 use answers::{Answered, answer};
 use input::ROOM;
-use libc::STDIN_FILENO;
 use page::PAGE;
+use std::io;
+use std::io::{Read, Write};
+
+// How much is read at a time.
+const BLOCK: usize = 4096;
 
 // How many digits the line under way has, how much of the page is used, and whether more input may come.
 #[derive(Drop)]
@@ -25,52 +29,81 @@ struct Fill {
 }
 
 // Answers a line, and gives back how much of the page is used.
-fn reply(line: &[u8; ROOM], digits: usize, page: &mut [u8; PAGE], used: usize) -> usize {
+fn reply(
+    line: &[u8; ROOM],
+    digits: usize,
+    to: &mut impl Write,
+    page: &mut [u8; PAGE],
+    used: usize,
+) -> io::Result<usize> {
     let n = input::whole(digits);
     if n == 0 {
-        return output::unknown(page, used);
+        return output::unknown(to, page, used);
     }
     let query: &[u8] = line;
     let mut out = [0u64; 8];
     match answer(query[0], &query[1..n], &mut out) {
-        Answered::Answer { word, count } => output::told(page, used, word, count, &mut out),
-        Answered::Unknown => output::unknown(page, used),
+        Answered::Answer { word, count } => output::told(to, page, used, word, count, &mut out),
+        Answered::Unknown => output::unknown(to, page, used),
     }
 }
 
-fn take(b: u8, line: &mut [u8; ROOM], page: &mut [u8; PAGE], mut fill: Fill) -> Fill {
+fn take(
+    b: u8,
+    line: &mut [u8; ROOM],
+    to: &mut impl Write,
+    page: &mut [u8; PAGE],
+    mut fill: Fill,
+) -> io::Result<Fill> {
     if b == b'\n' {
-        fill.used = reply(line, fill.digits, page, fill.used);
+        fill.used = reply(line, fill.digits, to, page, fill.used)?;
         fill.digits = 0;
     } else {
         fill.digits = input::push(line, fill.digits, b);
     }
-    fill
+    Ok(fill)
 }
 
-fn take_all(block: &[u8], line: &mut [u8; ROOM], page: &mut [u8; PAGE], mut fill: Fill) -> Fill {
+fn take_all(
+    block: &[u8],
+    line: &mut [u8; ROOM],
+    to: &mut impl Write,
+    page: &mut [u8; PAGE],
+    mut fill: Fill,
+) -> io::Result<Fill> {
     let mut i = 0;
     while i < block.len() {
-        fill = take(block[i], line, page, fill);
+        fill = take(block[i], line, to, page, fill)?;
         i += 1;
     }
-    fill
+    Ok(fill)
 }
 
-// Reads once. What came may be of any length: a line goes on in the next block.
-fn turn(line: &mut [u8; ROOM], page: &mut [u8; PAGE], mut fill: Fill) -> Fill {
-    let mut block = io::buffer();
-    let got = libc::read(STDIN_FILENO, &mut block);
-    if got <= 0 {
-        fill.more = false;
-        return fill;
+// Reads once. What came may be of any length: a line goes on in the next block. A read that fails ends the input.
+fn turn(
+    from: &mut impl Read,
+    line: &mut [u8; ROOM],
+    to: &mut impl Write,
+    page: &mut [u8; PAGE],
+    mut fill: Fill,
+) -> io::Result<Fill> {
+    let mut block = [0u8; BLOCK];
+    match from.read(&mut block) {
+        Ok(n) if n > 0 => take_all(&block[..n], line, to, page, fill),
+        _ => {
+            fill.more = false;
+            Ok(fill)
+        }
     }
-    let n = io::count(got, &block);
-    take_all(&block[..n], line, page, fill)
 }
 
 // A proved loop ends, and nothing says that the input does: so the turns count down from a number that no run uses up.
-fn turns(line: &mut [u8; ROOM], page: &mut [u8; PAGE]) -> Fill {
+fn turns(
+    from: &mut impl Read,
+    line: &mut [u8; ROOM],
+    to: &mut impl Write,
+    page: &mut [u8; PAGE],
+) -> io::Result<Fill> {
     let mut fill = Fill {
         digits: 0,
         used: 0,
@@ -78,20 +111,23 @@ fn turns(line: &mut [u8; ROOM], page: &mut [u8; PAGE]) -> Fill {
     };
     let mut left = u64::MAX;
     while left > 0 && fill.more {
-        fill = turn(line, page, fill);
+        fill = turn(from, line, to, page, fill)?;
         left -= 1;
     }
-    fill
+    Ok(fill)
 }
 
-fn main() {
+fn main(rt: HostRuntime) -> io::Result<()> {
+    let mut from = rt.reader();
+    let mut to = io::writer(&rt);
     let mut line = [0u8; ROOM];
     let mut page = [0u8; PAGE];
-    let fill = turns(&mut line, &mut page);
+    let fill = turns(&mut from, &mut line, &mut to, &mut page)?;
     let mut used = fill.used;
     // The last line may have no line end.
     if fill.digits > 0 {
-        used = reply(&line, fill.digits, &mut page, used);
+        used = reply(&line, fill.digits, &mut to, &mut page, used)?;
     }
-    page::flush(&page, used);
+    page::flush(&mut to, &page, used)?;
+    Ok(())
 }

@@ -1,24 +1,31 @@
 // The lines of the output.
 use page::{PAGE, put, text};
+use std::io;
+use std::io::Write;
 
-fn decimal(page: &mut [u8; PAGE], used: usize, n: u64) -> usize {
-    let mut digits = [0u8; 20];
-    let count = io::decimal(n, &mut digits);
-    text(page, used, &digits[..count])
+fn decimal(to: &mut impl Write, page: &mut [u8; PAGE], used: usize, n: u64) -> io::Result<usize> {
+    let mut digits = itoa::Buffer::new();
+    text(to, page, used, digits.format(n).as_bytes())
 }
 
-fn value(page: &mut [u8; PAGE], used: usize, n: u64) -> usize {
-    let used = put(page, used, b' ');
-    decimal(page, used, n)
+fn value(to: &mut impl Write, page: &mut [u8; PAGE], used: usize, n: u64) -> io::Result<usize> {
+    let used = put(to, page, used, b' ')?;
+    decimal(to, page, used, n)
 }
 
-fn values(page: &mut [u8; PAGE], mut used: usize, out: &[u64; 8], count: usize) -> usize {
+fn values(
+    to: &mut impl Write,
+    page: &mut [u8; PAGE],
+    mut used: usize,
+    out: &[u64; 8],
+    count: usize,
+) -> io::Result<usize> {
     let mut i = 0;
     while i < count && i < 8 {
-        used = value(page, used, out[i]);
+        used = value(to, page, used, out[i])?;
         i += 1;
     }
-    used
+    Ok(used)
 }
 
 // How many values an answer has: on 0 the `count` out numbers, with 12 and 13 the numbers named in the word, which are put
@@ -43,19 +50,20 @@ fn named(word: u32, count: usize, out: &mut [u64; 8]) -> usize {
 
 // The line of an answer.
 pub fn told(
+    to: &mut impl Write,
     page: &mut [u8; PAGE],
     used: usize,
     word: u32,
     count: usize,
     out: &mut [u64; 8],
-) -> usize {
+) -> io::Result<usize> {
     let count = named(word, count, out);
-    let used = decimal(page, used, (word % 256) as u64);
-    let used = values(page, used, out, count);
-    put(page, used, b'\n')
+    let used = decimal(to, page, used, (word % 256) as u64)?;
+    let used = values(to, page, used, out, count)?;
+    put(to, page, used, b'\n')
 }
 
 // The line for what is no query.
-pub fn unknown(page: &mut [u8; PAGE], used: usize) -> usize {
-    text(page, used, b"?\n")
+pub fn unknown(to: &mut impl Write, page: &mut [u8; PAGE], used: usize) -> io::Result<usize> {
+    text(to, page, used, b"?\n")
 }
