@@ -6,10 +6,10 @@ ghost use Rattle.gather.specs.Row.{gathering_row, moves, row_gather, row_gather_
 ghost use Rattle.host.specs.Reports.{Reports};
 
 use crate::strayed;
+use event_log::Event;
 use gather::row::RowRead;
 use gather::{Gathering, HeldRead, Lies, Verdict, row};
 use host::numbers::{DONE, NO_SYNC, OUT_OF_RANGE, STORE_FULL, WRONG_LENGTH};
-use event_log::Event;
 
 fn number_of(v: Verdict) -> u32
     ensures { result ≡ store_number v }

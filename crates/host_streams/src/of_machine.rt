@@ -7,8 +7,8 @@ ghost use Rattle.host.specs.Reports.{Reports};
 ghost use Rattle.machine.specs.Row.{row_of, row_step, row_step_of, row_run, row_run_of};
 
 use crate::{step_number, strayed};
-use host::numbers::{DONE, OUT_OF_RANGE, WRONG_LENGTH};
 use event_log::EntryRead;
+use host::numbers::{DONE, OUT_OF_RANGE, WRONG_LENGTH};
 use machine::row::RowRead;
 use machine::{Machine, row};
 
