@@ -23,27 +23,21 @@ fn report_flag(r: FlagRead, value: &mut u64) -> u32
 }
 
 // adaptation::discontinuity_indicator
-#[unsafe(no_mangle)]
-pub extern "C" fn cmv_adaptation_field_discontinuity_indicator(buf: &[u8], value: &mut u64) -> u32
+pub fn cmv_adaptation_field_discontinuity_indicator(buf: &[u8], value: &mut u64) -> u32
     ensures { Reports (read_flag 0 buf.now) result (value.old ∷ []) (value.new ∷ []) }
 {
     report_flag(adaptation::discontinuity_indicator(buf), value)
 }
 
 // adaptation::random_access_indicator
-#[unsafe(no_mangle)]
-pub extern "C" fn cmv_adaptation_field_random_access_indicator(buf: &[u8], value: &mut u64) -> u32
+pub fn cmv_adaptation_field_random_access_indicator(buf: &[u8], value: &mut u64) -> u32
     ensures { Reports (read_flag 1 buf.now) result (value.old ∷ []) (value.new ∷ []) }
 {
     report_flag(adaptation::random_access_indicator(buf), value)
 }
 
 // adaptation::elementary_stream_priority_indicator
-#[unsafe(no_mangle)]
-pub extern "C" fn cmv_adaptation_field_elementary_stream_priority_indicator(
-    buf: &[u8],
-    value: &mut u64,
-) -> u32
+pub fn cmv_adaptation_field_elementary_stream_priority_indicator(buf: &[u8], value: &mut u64) -> u32
     ensures { Reports (read_flag 2 buf.now) result (value.old ∷ []) (value.new ∷ []) }
 {
     report_flag(adaptation::elementary_stream_priority_indicator(buf), value)
@@ -62,8 +56,7 @@ fn report_clock_read(r: ClockRead, base: &mut u64, extension: &mut u64) -> u32
 }
 
 // adaptation::pcr
-#[unsafe(no_mangle)]
-pub extern "C" fn cmv_adaptation_field_pcr(buf: &[u8], base: &mut u64, extension: &mut u64) -> u32
+pub fn cmv_adaptation_field_pcr(buf: &[u8], base: &mut u64, extension: &mut u64) -> u32
     ensures { Reports (read_pcr buf.now) result (base.old ∷ extension.old ∷ [])
         (base.new ∷ extension.new ∷ []) }
 {
@@ -71,8 +64,7 @@ pub extern "C" fn cmv_adaptation_field_pcr(buf: &[u8], base: &mut u64, extension
 }
 
 // adaptation::opcr
-#[unsafe(no_mangle)]
-pub extern "C" fn cmv_adaptation_field_opcr(buf: &[u8], base: &mut u64, extension: &mut u64) -> u32
+pub fn cmv_adaptation_field_opcr(buf: &[u8], base: &mut u64, extension: &mut u64) -> u32
     ensures { Reports (read_opcr buf.now) result (base.old ∷ extension.old ∷ [])
         (base.new ∷ extension.new ∷ []) }
 {
@@ -80,8 +72,7 @@ pub extern "C" fn cmv_adaptation_field_opcr(buf: &[u8], base: &mut u64, extensio
 }
 
 // adaptation::splice_countdown
-#[unsafe(no_mangle)]
-pub extern "C" fn cmv_adaptation_field_splice_countdown(buf: &[u8], value: &mut u64) -> u32
+pub fn cmv_adaptation_field_splice_countdown(buf: &[u8], value: &mut u64) -> u32
     ensures { Reports (read_splice_countdown buf.now) result (value.old ∷ []) (value.new ∷ []) }
 {
     match adaptation::splice_countdown(buf) {
@@ -114,8 +105,7 @@ fn report_part(r: PartRead, place: &mut u64, length: &mut u64) -> u32
 }
 
 // adaptation::transport_private_data_at: where what transport_private_data gives lies
-#[unsafe(no_mangle)]
-pub extern "C" fn cmv_adaptation_field_transport_private_data(
+pub fn cmv_adaptation_field_transport_private_data(
     buf: &[u8],
     place: &mut u64,
     length: &mut u64,
@@ -127,12 +117,7 @@ pub extern "C" fn cmv_adaptation_field_transport_private_data(
 }
 
 // adaptation::adaptation_field_extension_at: where what adaptation_field_extension gives lies
-#[unsafe(no_mangle)]
-pub extern "C" fn cmv_adaptation_field_extension(
-    buf: &[u8],
-    place: &mut u64,
-    length: &mut u64,
-) -> u32
+pub fn cmv_adaptation_field_extension(buf: &[u8], place: &mut u64, length: &mut u64) -> u32
     ensures { Reports (read_extension buf.now) result (place.old ∷ length.old ∷ [])
         (place.new ∷ length.new ∷ []) }
 {
@@ -144,12 +129,7 @@ pub extern "C" fn cmv_adaptation_field_extension(
 }
 
 // adaptation::extension::ltw_offset: kind 1 where it is valid
-#[unsafe(no_mangle)]
-pub extern "C" fn cmv_adaptation_extension_ltw_offset(
-    buf: &[u8],
-    kind: &mut u64,
-    offset: &mut u64,
-) -> u32
+pub fn cmv_adaptation_extension_ltw_offset(buf: &[u8], kind: &mut u64, offset: &mut u64) -> u32
     ensures { Reports (read_ltw buf.now) result (kind.old ∷ offset.old ∷ [])
         (kind.new ∷ offset.new ∷ []) }
 {
@@ -170,8 +150,7 @@ pub extern "C" fn cmv_adaptation_extension_ltw_offset(
 }
 
 // adaptation::extension::piecewise_rate
-#[unsafe(no_mangle)]
-pub extern "C" fn cmv_adaptation_extension_piecewise_rate(buf: &[u8], value: &mut u64) -> u32
+pub fn cmv_adaptation_extension_piecewise_rate(buf: &[u8], value: &mut u64) -> u32
     ensures { Reports (read_rate buf.now) result (value.old ∷ []) (value.new ∷ []) }
 {
     match adaptation::extension::piecewise_rate(buf) {
@@ -185,12 +164,7 @@ pub extern "C" fn cmv_adaptation_extension_piecewise_rate(buf: &[u8], value: &mu
 }
 
 // adaptation::extension::seamless_splice
-#[unsafe(no_mangle)]
-pub extern "C" fn cmv_adaptation_extension_seamless_splice(
-    buf: &[u8],
-    splice: &mut u64,
-    dts: &mut u64,
-) -> u32
+pub fn cmv_adaptation_extension_seamless_splice(buf: &[u8], splice: &mut u64, dts: &mut u64) -> u32
     ensures { Reports (read_splice buf.now) result (splice.old ∷ dts.old ∷ [])
         (splice.new ∷ dts.new ∷ []) }
 {

@@ -33,8 +33,7 @@ pub fn refused(r: Refusal) -> u32
 }
 
 // contents::from_bytes
-#[unsafe(no_mangle)]
-pub extern "C" fn cmv_pes_contents_from_bytes(buf: &[u8]) -> u32
+pub fn cmv_pes_contents_from_bytes(buf: &[u8]) -> u32
     ensures { Reports (read_contents buf.now) result [] [] }
 {
     match contents::from_bytes(buf) {
@@ -56,32 +55,28 @@ fn report_byte(r: ByteRead, value: &mut u64) -> u32
 }
 
 // contents::pes_priority
-#[unsafe(no_mangle)]
-pub extern "C" fn cmv_pes_contents_pes_priority(buf: &[u8], value: &mut u64) -> u32
+pub fn cmv_pes_contents_pes_priority(buf: &[u8], value: &mut u64) -> u32
     ensures { Reports (read_fixed pes_priority_bit 1 buf.now) result (value.old ∷ []) (value.new ∷ []) }
 {
     report_byte(contents::pes_priority(buf), value)
 }
 
 // contents::pes_scrambling_control
-#[unsafe(no_mangle)]
-pub extern "C" fn cmv_pes_contents_pes_scrambling_control(buf: &[u8], value: &mut u64) -> u32
+pub fn cmv_pes_contents_pes_scrambling_control(buf: &[u8], value: &mut u64) -> u32
     ensures { Reports (read_fixed scrambling_bit 2 buf.now) result (value.old ∷ []) (value.new ∷ []) }
 {
     report_byte(contents::pes_scrambling_control(buf), value)
 }
 
 // contents::flags
-#[unsafe(no_mangle)]
-pub extern "C" fn cmv_pes_contents_flags(buf: &[u8], value: &mut u64) -> u32
+pub fn cmv_pes_contents_flags(buf: &[u8], value: &mut u64) -> u32
     ensures { Reports (read_fixed flags_bit 8 buf.now) result (value.old ∷ []) (value.new ∷ []) }
 {
     report_byte(contents::flags(buf), value)
 }
 
 // contents::pes_header_data_len
-#[unsafe(no_mangle)]
-pub extern "C" fn cmv_pes_contents_pes_header_data_len(buf: &[u8], value: &mut u64) -> u32
+pub fn cmv_pes_contents_pes_header_data_len(buf: &[u8], value: &mut u64) -> u32
     ensures { Reports (read_fixed data_length_bit 8 buf.now) result (value.old ∷ []) (value.new ∷ []) }
 {
     report_byte(contents::pes_header_data_len(buf), value)
@@ -97,8 +92,7 @@ fn aligned(x: DataAlignment) -> u64
 }
 
 // contents::data_alignment_indicator: 1 where aligned
-#[unsafe(no_mangle)]
-pub extern "C" fn cmv_pes_contents_data_alignment_indicator(buf: &[u8], value: &mut u64) -> u32
+pub fn cmv_pes_contents_data_alignment_indicator(buf: &[u8], value: &mut u64) -> u32
     ensures { Reports (read_fixed alignment_bit 1 buf.now) result (value.old ∷ []) (value.new ∷ []) }
 {
     match contents::data_alignment_indicator(buf) {
@@ -120,8 +114,7 @@ fn undefined(x: CopyrightStatus) -> u64
 }
 
 // contents::copyright: 1 where undefined
-#[unsafe(no_mangle)]
-pub extern "C" fn cmv_pes_contents_copyright(buf: &[u8], value: &mut u64) -> u32
+pub fn cmv_pes_contents_copyright(buf: &[u8], value: &mut u64) -> u32
     ensures { Reports (read_fixed copyright_bit 1 buf.now) result (value.old ∷ []) (value.new ∷ []) }
 {
     match contents::copyright(buf) {
@@ -143,8 +136,7 @@ fn original(x: OriginalOrCopy) -> u64
 }
 
 // contents::original_or_copy: 1 where original
-#[unsafe(no_mangle)]
-pub extern "C" fn cmv_pes_contents_original_or_copy(buf: &[u8], value: &mut u64) -> u32
+pub fn cmv_pes_contents_original_or_copy(buf: &[u8], value: &mut u64) -> u32
     ensures { Reports (read_fixed original_bit 1 buf.now) result (value.old ∷ []) (value.new ∷ []) }
 {
     match contents::original_or_copy(buf) {
@@ -170,8 +162,7 @@ fn inner(s: StampRead) -> Pair
 }
 
 // contents::pts_dts: kind 1 a PTS, kind 2 a PTS and a DTS
-#[unsafe(no_mangle)]
-pub extern "C" fn cmv_pes_contents_pts_dts(
+pub fn cmv_pes_contents_pts_dts(
     buf: &[u8],
     kind: &mut u64,
     ptsnumber: &mut u64,
@@ -210,8 +201,7 @@ pub extern "C" fn cmv_pes_contents_pts_dts(
 }
 
 // contents::escr
-#[unsafe(no_mangle)]
-pub extern "C" fn cmv_pes_contents_escr(buf: &[u8], base: &mut u64, extension: &mut u64) -> u32
+pub fn cmv_pes_contents_escr(buf: &[u8], base: &mut u64, extension: &mut u64) -> u32
     ensures { Reports (read_escr buf.now) result (base.old ∷ extension.old ∷ [])
         (base.new ∷ extension.new ∷ []) }
 {
@@ -223,8 +213,7 @@ pub extern "C" fn cmv_pes_contents_escr(buf: &[u8], base: &mut u64, extension: &
 }
 
 // contents::es_rate
-#[unsafe(no_mangle)]
-pub extern "C" fn cmv_pes_contents_es_rate(buf: &[u8], value: &mut u64) -> u32
+pub fn cmv_pes_contents_es_rate(buf: &[u8], value: &mut u64) -> u32
     ensures { Reports (read_es_rate buf.now) result (value.old ∷ []) (value.new ∷ []) }
 {
     match contents::es_rate(buf) {
@@ -292,8 +281,7 @@ pub fn trick(t: DsmTrickMode) -> Four
 // (which coefficients may be non-zero: 0 DC only, 1 the first three, 2 the first six, 3 all); kind 2 freeze frame, with field id and
 // reserved bits; kind 1 slow motion, kind 4 slow reverse and kind 5 a reserved mode, each with the control number as the original gives
 // it, and not with the five bits after it, which cmv_pes_contents_raw_trick_mode has. A number that a kind does not have is 0.
-#[unsafe(no_mangle)]
-pub extern "C" fn cmv_pes_contents_dsm_trick_mode(
+pub fn cmv_pes_contents_dsm_trick_mode(
     buf: &[u8],
     kind: &mut u64,
     first: &mut u64,
@@ -319,8 +307,7 @@ pub extern "C" fn cmv_pes_contents_dsm_trick_mode(
 }
 
 // contents::raw_trick_mode
-#[unsafe(no_mangle)]
-pub extern "C" fn cmv_pes_contents_raw_trick_mode(buf: &[u8], value: &mut u64) -> u32
+pub fn cmv_pes_contents_raw_trick_mode(buf: &[u8], value: &mut u64) -> u32
     ensures { Reports (read_raw_trick buf.now) result (value.old ∷ []) (value.new ∷ []) }
 {
     match contents::raw_trick_mode(buf) {
@@ -334,8 +321,7 @@ pub extern "C" fn cmv_pes_contents_raw_trick_mode(buf: &[u8], value: &mut u64) -
 }
 
 // contents::additional_copy_info
-#[unsafe(no_mangle)]
-pub extern "C" fn cmv_pes_contents_additional_copy_info(buf: &[u8], value: &mut u64) -> u32
+pub fn cmv_pes_contents_additional_copy_info(buf: &[u8], value: &mut u64) -> u32
     ensures { Reports (read_copy_info buf.now) result (value.old ∷ []) (value.new ∷ []) }
 {
     match contents::additional_copy_info(buf) {
@@ -351,8 +337,7 @@ pub extern "C" fn cmv_pes_contents_additional_copy_info(buf: &[u8], value: &mut 
 }
 
 // contents::previous_pes_packet_crc
-#[unsafe(no_mangle)]
-pub extern "C" fn cmv_pes_contents_previous_pes_packet_crc(buf: &[u8], value: &mut u64) -> u32
+pub fn cmv_pes_contents_previous_pes_packet_crc(buf: &[u8], value: &mut u64) -> u32
     ensures { Reports (read_crc buf.now) result (value.old ∷ []) (value.new ∷ []) }
 {
     match contents::previous_pes_packet_crc(buf) {
@@ -383,12 +368,7 @@ fn report_part(r: PartRead, place: &mut u64, length: &mut u64) -> u32
 }
 
 // contents::pes_extension_at: where what pes_extension gives lies
-#[unsafe(no_mangle)]
-pub extern "C" fn cmv_pes_contents_pes_extension(
-    buf: &[u8],
-    place: &mut u64,
-    length: &mut u64,
-) -> u32
+pub fn cmv_pes_contents_pes_extension(buf: &[u8], place: &mut u64, length: &mut u64) -> u32
     ensures { Reports (read_pes_extension buf.now) result (place.old ∷ length.old ∷ [])
         (place.new ∷ length.new ∷ []) }
 {
@@ -396,8 +376,7 @@ pub extern "C" fn cmv_pes_contents_pes_extension(
 }
 
 // contents::payload_at: where what payload gives lies
-#[unsafe(no_mangle)]
-pub extern "C" fn cmv_pes_contents_payload(buf: &[u8], place: &mut u64, length: &mut u64) -> u32
+pub fn cmv_pes_contents_payload(buf: &[u8], place: &mut u64, length: &mut u64) -> u32
     ensures { Reports (read_parsed_payload buf.now) result (place.old ∷ length.old ∷ [])
         (place.new ∷ length.new ∷ []) }
 {
@@ -405,8 +384,7 @@ pub extern "C" fn cmv_pes_contents_payload(buf: &[u8], place: &mut u64, length: 
 }
 
 // EsRate::new, and its number
-#[unsafe(no_mangle)]
-pub extern "C" fn cmv_es_rate_new(rate: u32, value: &mut u64) -> u32
+pub fn cmv_es_rate_new(rate: u32, value: &mut u64) -> u32
     ensures { Reports (make_rate rate) result (value.old ∷ []) (value.new ∷ []) }
 {
     match EsRate::new(rate) {
@@ -419,8 +397,7 @@ pub extern "C" fn cmv_es_rate_new(rate: u32, value: &mut u64) -> u32
 }
 
 // EsRate::bytes_per_second, of a number that is a rate
-#[unsafe(no_mangle)]
-pub extern "C" fn cmv_es_rate_bytes_per_second(rate: u32, value: &mut u64) -> u32
+pub fn cmv_es_rate_bytes_per_second(rate: u32, value: &mut u64) -> u32
     ensures { Reports (rate_bytes rate) result (value.old ∷ []) (value.new ∷ []) }
 {
     let EsRateMade::Done(e) = EsRate::new(rate) else {

@@ -23,8 +23,7 @@ pub fn report_clock(c: ClockRef, base: &mut u64, extension: &mut u64) -> u32
 }
 
 // ClockRef::from_slice
-#[unsafe(no_mangle)]
-pub extern "C" fn cmv_clock_ref_from_slice(buf: &[u8], base: &mut u64, extension: &mut u64) -> u32
+pub fn cmv_clock_ref_from_slice(buf: &[u8], base: &mut u64, extension: &mut u64) -> u32
     ensures { Reports (read_clock buf.now) result (base.old ∷ extension.old ∷ [])
         (base.new ∷ extension.new ∷ []) }
 {
@@ -35,13 +34,7 @@ pub extern "C" fn cmv_clock_ref_from_slice(buf: &[u8], base: &mut u64, extension
 }
 
 // ClockRef::from_parts, and its two values
-#[unsafe(no_mangle)]
-pub extern "C" fn cmv_clock_ref_from_parts(
-    b: u64,
-    e: u16,
-    base: &mut u64,
-    extension: &mut u64,
-) -> u32
+pub fn cmv_clock_ref_from_parts(b: u64, e: u16, base: &mut u64, extension: &mut u64) -> u32
     ensures { Reports (make_clock b e) result (base.old ∷ extension.old ∷ [])
         (base.new ∷ extension.new ∷ []) }
 {
@@ -52,8 +45,7 @@ pub extern "C" fn cmv_clock_ref_from_parts(
 }
 
 // ClockRef::into_u64, of two numbers that are a clock reference
-#[unsafe(no_mangle)]
-pub extern "C" fn cmv_clock_ref_into_u64(base: u64, extension: u16, number: &mut u64) -> u32
+pub fn cmv_clock_ref_into_u64(base: u64, extension: u16, number: &mut u64) -> u32
     ensures { Reports (clock_number base extension) result (number.old ∷ []) (number.new ∷ []) }
 {
     let ClockMade::Done(c) = ClockRef::from_parts(base, extension) else {
@@ -69,8 +61,7 @@ pub extern "C" fn cmv_clock_ref_into_u64(base: u64, extension: u16, number: &mut
 }
 
 // ClockRef::eq, of two pairs of numbers that are clock references
-#[unsafe(no_mangle)]
-pub extern "C" fn cmv_clock_ref_eq(
+pub fn cmv_clock_ref_eq(
     base: u64,
     extension: u16,
     base2: u64,
@@ -90,8 +81,7 @@ pub extern "C" fn cmv_clock_ref_eq(
 }
 
 // ContinuityCounter::new, and its count
-#[unsafe(no_mangle)]
-pub extern "C" fn cmv_continuity_counter_new(count: u8, value: &mut u64) -> u32
+pub fn cmv_continuity_counter_new(count: u8, value: &mut u64) -> u32
     ensures { Reports (make_counter count) result (value.old ∷ []) (value.new ∷ []) }
 {
     match ContinuityCounter::new(count) {
@@ -114,8 +104,7 @@ fn compared_number(k: Compared) -> u64
 }
 
 // ContinuityCounter::compare, of two numbers that are counters
-#[unsafe(no_mangle)]
-pub extern "C" fn cmv_continuity_counter_compare(count: u8, last: u8, compared: &mut u64) -> u32
+pub fn cmv_continuity_counter_compare(count: u8, last: u8, compared: &mut u64) -> u32
     ensures { Reports (compared_answer count last) result (compared.old ∷ []) (compared.new ∷ []) }
 {
     let CounterMade::Done(a) = ContinuityCounter::new(count) else {
@@ -129,8 +118,7 @@ pub extern "C" fn cmv_continuity_counter_compare(count: u8, last: u8, compared: 
 }
 
 // ContinuityCounter::follows, of two numbers that are counters
-#[unsafe(no_mangle)]
-pub extern "C" fn cmv_continuity_counter_follows(count: u8, other: u8, follows: &mut u64) -> u32
+pub fn cmv_continuity_counter_follows(count: u8, other: u8, follows: &mut u64) -> u32
     ensures { Reports (follows_answer count other) result (follows.old ∷ []) (follows.new ∷ []) }
 {
     let CounterMade::Done(a) = ContinuityCounter::new(count) else {
@@ -156,16 +144,14 @@ fn report_pid(r: PidMade, value: &mut u64) -> u32
 }
 
 // Pid::new, and its number
-#[unsafe(no_mangle)]
-pub extern "C" fn cmv_pid_new(pid: u16, value: &mut u64) -> u32
+pub fn cmv_pid_new(pid: u16, value: &mut u64) -> u32
     ensures { Reports (make_pid pid) result (value.old ∷ []) (value.new ∷ []) }
 {
     report_pid(Pid::new(pid), value)
 }
 
 // Pid::try_from, and its number
-#[unsafe(no_mangle)]
-pub extern "C" fn cmv_pid_try_from(pid: u16, value: &mut u64) -> u32
+pub fn cmv_pid_try_from(pid: u16, value: &mut u64) -> u32
     ensures { Reports (make_pid pid) result (value.old ∷ []) (value.new ∷ []) }
 {
     report_pid(Pid::try_from(pid), value)
@@ -181,8 +167,7 @@ pub fn report_control(c: AdaptationControl, field: &mut u64, payload: &mut u64) 
 }
 
 // AdaptationControl::has_adaptation_field and has_payload
-#[unsafe(no_mangle)]
-pub extern "C" fn cmv_adaptation_control(byte: u8, field: &mut u64, payload: &mut u64) -> u32
+pub fn cmv_adaptation_control(byte: u8, field: &mut u64, payload: &mut u64) -> u32
     ensures { Reports (control_answer byte) result (field.old ∷ payload.old ∷ [])
         (field.new ∷ payload.new ∷ []) }
 {
@@ -206,12 +191,7 @@ pub fn report_scrambling(
 }
 
 // TransportScramblingControl::is_scrambled and scheme
-#[unsafe(no_mangle)]
-pub extern "C" fn cmv_transport_scrambling_control(
-    byte: u8,
-    scrambled: &mut u64,
-    scheme: &mut u64,
-) -> u32
+pub fn cmv_transport_scrambling_control(byte: u8, scrambled: &mut u64, scheme: &mut u64) -> u32
     ensures { Reports (scrambling_answer byte) result (scrambled.old ∷ scheme.old ∷ [])
         (scrambled.new ∷ scheme.new ∷ []) }
 {
@@ -223,8 +203,7 @@ pub extern "C" fn cmv_transport_scrambling_control(
 }
 
 // Pid::MAX_VALUE and Pid::PID_COUNT
-#[unsafe(no_mangle)]
-pub extern "C" fn cmv_control_constants(max: &mut u64, count: &mut u64) -> u32
+pub fn cmv_control_constants(max: &mut u64, count: &mut u64) -> u32
     ensures { Reports (answer done ((2 ^ 13 - 1) ∷ 2 ^ 13 ∷ [])) result (max.old ∷ count.old ∷ [])
         (max.new ∷ count.new ∷ []) }
 {

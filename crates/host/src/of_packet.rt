@@ -12,8 +12,7 @@ use crate::of_control::{report_control, report_scrambling};
 use packet::{ControlRead, CounterRead, FlagRead, PartRead, PidRead, ScramblingRead, Tried};
 
 // packet::is_sync_byte
-#[unsafe(no_mangle)]
-pub extern "C" fn cmv_packet_is_sync_byte(b: u8, is: &mut u64) -> u32
+pub fn cmv_packet_is_sync_byte(b: u8, is: &mut u64) -> u32
     ensures { Reports (answer done (truth (eqb b 0x47) ∷ [])) result (is.old ∷ []) (is.new ∷ []) }
 {
     *is = packet::is_sync_byte(b) as u64;
@@ -21,8 +20,7 @@ pub extern "C" fn cmv_packet_is_sync_byte(b: u8, is: &mut u64) -> u32
 }
 
 // packet::try_new
-#[unsafe(no_mangle)]
-pub extern "C" fn cmv_packet_try_new(buf: &[u8]) -> u32
+pub fn cmv_packet_try_new(buf: &[u8]) -> u32
     ensures { Reports (tried buf.now) result [] [] }
 {
     match packet::try_new(buf) {
@@ -46,32 +44,28 @@ fn report_flag(r: FlagRead, value: &mut u64) -> u32
 }
 
 // packet::transport_error_indicator
-#[unsafe(no_mangle)]
-pub extern "C" fn cmv_packet_transport_error_indicator(buf: &[u8], value: &mut u64) -> u32
+pub fn cmv_packet_transport_error_indicator(buf: &[u8], value: &mut u64) -> u32
     ensures { Reports (read_flag error_bit buf.now) result (value.old ∷ []) (value.new ∷ []) }
 {
     report_flag(packet::transport_error_indicator(buf), value)
 }
 
 // packet::payload_unit_start_indicator
-#[unsafe(no_mangle)]
-pub extern "C" fn cmv_packet_payload_unit_start_indicator(buf: &[u8], value: &mut u64) -> u32
+pub fn cmv_packet_payload_unit_start_indicator(buf: &[u8], value: &mut u64) -> u32
     ensures { Reports (read_flag start_bit buf.now) result (value.old ∷ []) (value.new ∷ []) }
 {
     report_flag(packet::payload_unit_start_indicator(buf), value)
 }
 
 // packet::transport_priority
-#[unsafe(no_mangle)]
-pub extern "C" fn cmv_packet_transport_priority(buf: &[u8], value: &mut u64) -> u32
+pub fn cmv_packet_transport_priority(buf: &[u8], value: &mut u64) -> u32
     ensures { Reports (read_flag priority_bit buf.now) result (value.old ∷ []) (value.new ∷ []) }
 {
     report_flag(packet::transport_priority(buf), value)
 }
 
 // packet::pid
-#[unsafe(no_mangle)]
-pub extern "C" fn cmv_packet_pid(buf: &[u8], value: &mut u64) -> u32
+pub fn cmv_packet_pid(buf: &[u8], value: &mut u64) -> u32
     ensures { Reports (read_pid buf.now) result (value.old ∷ []) (value.new ∷ []) }
 {
     match packet::pid(buf) {
@@ -85,8 +79,7 @@ pub extern "C" fn cmv_packet_pid(buf: &[u8], value: &mut u64) -> u32
 }
 
 // packet::transport_scrambling_control
-#[unsafe(no_mangle)]
-pub extern "C" fn cmv_packet_transport_scrambling_control(
+pub fn cmv_packet_transport_scrambling_control(
     buf: &[u8],
     scrambled: &mut u64,
     scheme: &mut u64,
@@ -102,12 +95,7 @@ pub extern "C" fn cmv_packet_transport_scrambling_control(
 }
 
 // packet::adaptation_control
-#[unsafe(no_mangle)]
-pub extern "C" fn cmv_packet_adaptation_control(
-    buf: &[u8],
-    field: &mut u64,
-    payload: &mut u64,
-) -> u32
+pub fn cmv_packet_adaptation_control(buf: &[u8], field: &mut u64, payload: &mut u64) -> u32
     ensures { Reports (read_control buf.now) result (field.old ∷ payload.old ∷ [])
         (field.new ∷ payload.new ∷ []) }
 {
@@ -119,8 +107,7 @@ pub extern "C" fn cmv_packet_adaptation_control(
 }
 
 // packet::continuity_counter
-#[unsafe(no_mangle)]
-pub extern "C" fn cmv_packet_continuity_counter(buf: &[u8], value: &mut u64) -> u32
+pub fn cmv_packet_continuity_counter(buf: &[u8], value: &mut u64) -> u32
     ensures { Reports (read_counter buf.now) result (value.old ∷ []) (value.new ∷ []) }
 {
     match packet::continuity_counter(buf) {
@@ -152,8 +139,7 @@ fn report_part(r: PartRead, place: &mut u64, length: &mut u64) -> u32
 }
 
 // packet::adaptation_field_at: where what adaptation_field gives lies
-#[unsafe(no_mangle)]
-pub extern "C" fn cmv_packet_adaptation_field(buf: &[u8], place: &mut u64, length: &mut u64) -> u32
+pub fn cmv_packet_adaptation_field(buf: &[u8], place: &mut u64, length: &mut u64) -> u32
     ensures { Reports (read_adaptation buf.now) result (place.old ∷ length.old ∷ [])
         (place.new ∷ length.new ∷ []) }
 {
@@ -161,8 +147,7 @@ pub extern "C" fn cmv_packet_adaptation_field(buf: &[u8], place: &mut u64, lengt
 }
 
 // packet::payload_at: where what payload gives lies
-#[unsafe(no_mangle)]
-pub extern "C" fn cmv_packet_payload(buf: &[u8], place: &mut u64, length: &mut u64) -> u32
+pub fn cmv_packet_payload(buf: &[u8], place: &mut u64, length: &mut u64) -> u32
     ensures { Reports (read_payload buf.now) result (place.old ∷ length.old ∷ [])
         (place.new ∷ length.new ∷ []) }
 {
@@ -170,8 +155,7 @@ pub extern "C" fn cmv_packet_payload(buf: &[u8], place: &mut u64, length: &mut u
 }
 
 // packet::SYNC_BYTE and packet::SIZE
-#[unsafe(no_mangle)]
-pub extern "C" fn cmv_packet_constants(sync: &mut u64, size: &mut u64) -> u32
+pub fn cmv_packet_constants(sync: &mut u64, size: &mut u64) -> u32
     ensures { Reports (answer done (0x47 ∷ 188 ∷ [])) result (sync.old ∷ size.old ∷ [])
         (sync.new ∷ size.new ∷ []) }
 {

@@ -8,8 +8,7 @@ use crate::numbers::{BAD_START_CODE, DONE, Pair, SHORT_HEADER};
 use pes::{ContentsRead, HeadRead, LengthRead, StreamId, StreamIdRead};
 
 // pes::from_bytes
-#[unsafe(no_mangle)]
-pub extern "C" fn cmv_pes_header_from_bytes(buf: &[u8]) -> u32
+pub fn cmv_pes_header_from_bytes(buf: &[u8]) -> u32
     ensures { Reports (read_head buf.now) result [] [] }
 {
     match pes::from_bytes(buf) {
@@ -54,8 +53,7 @@ fn values(s: StreamId) -> Pair
 // other kind is the id itself, with 0: in hex BC program stream map, BD private stream 1, BE padding, BF private stream 2, F0 ECM,
 // F1 EMM, F2 DSM-CC, F3 ISO 13522, F4 to F8 H.222.1 types A to E, F9 ancillary, FA SL-packetized, FB FlexMux, FC metadata,
 // FD extended stream id, FE reserved data, FF program stream directory.
-#[unsafe(no_mangle)]
-pub extern "C" fn cmv_pes_header_stream_id(buf: &[u8], kind: &mut u64, low: &mut u64) -> u32
+pub fn cmv_pes_header_stream_id(buf: &[u8], kind: &mut u64, low: &mut u64) -> u32
     ensures { Reports (read_stream_id buf.now) result (kind.old ∷ low.old ∷ [])
         (kind.new ∷ low.new ∷ []) }
 {
@@ -72,12 +70,7 @@ pub extern "C" fn cmv_pes_header_stream_id(buf: &[u8], kind: &mut u64, low: &mut
 }
 
 // pes::pes_packet_length: kind 0 unbounded, kind 1 bounded
-#[unsafe(no_mangle)]
-pub extern "C" fn cmv_pes_header_pes_packet_length(
-    buf: &[u8],
-    kind: &mut u64,
-    length: &mut u64,
-) -> u32
+pub fn cmv_pes_header_pes_packet_length(buf: &[u8], kind: &mut u64, length: &mut u64) -> u32
     ensures { Reports (read_length buf.now) result (kind.old ∷ length.old ∷ [])
         (kind.new ∷ length.new ∷ []) }
 {
@@ -98,13 +91,7 @@ pub extern "C" fn cmv_pes_header_pes_packet_length(
 }
 
 // pes::contents: kind 0 bare payload, kind 1 parsed contents, and where they lie
-#[unsafe(no_mangle)]
-pub extern "C" fn cmv_pes_header_contents(
-    buf: &[u8],
-    kind: &mut u64,
-    place: &mut u64,
-    length: &mut u64,
-) -> u32
+pub fn cmv_pes_header_contents(buf: &[u8], kind: &mut u64, place: &mut u64, length: &mut u64) -> u32
     ensures { Reports (read_contents_part buf.now) result (kind.old ∷ place.old ∷ length.old ∷ [])
         (kind.new ∷ place.new ∷ length.new ∷ []) }
 {

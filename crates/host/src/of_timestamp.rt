@@ -27,32 +27,28 @@ fn report(r: TimestampRead, value: &mut u64) -> u32
 }
 
 // Timestamp::from_pts_bytes
-#[unsafe(no_mangle)]
-pub extern "C" fn cmv_timestamp_from_pts_bytes(buf: &[u8], value: &mut u64) -> u32
+pub fn cmv_timestamp_from_pts_bytes(buf: &[u8], value: &mut u64) -> u32
     ensures { Reports (read_prefixed pts_prefix buf.now) result (value.old ∷ []) (value.new ∷ []) }
 {
     report(Timestamp::from_pts_bytes(buf), value)
 }
 
 // Timestamp::from_dts_bytes
-#[unsafe(no_mangle)]
-pub extern "C" fn cmv_timestamp_from_dts_bytes(buf: &[u8], value: &mut u64) -> u32
+pub fn cmv_timestamp_from_dts_bytes(buf: &[u8], value: &mut u64) -> u32
     ensures { Reports (read_prefixed dts_prefix buf.now) result (value.old ∷ []) (value.new ∷ []) }
 {
     report(Timestamp::from_dts_bytes(buf), value)
 }
 
 // Timestamp::from_bytes
-#[unsafe(no_mangle)]
-pub extern "C" fn cmv_timestamp_from_bytes(buf: &[u8], value: &mut u64) -> u32
+pub fn cmv_timestamp_from_bytes(buf: &[u8], value: &mut u64) -> u32
     ensures { Reports (read_stamp buf.now) result (value.old ∷ []) (value.new ∷ []) }
 {
     report(Timestamp::from_bytes(buf), value)
 }
 
 // Timestamp::from_u64, and its value
-#[unsafe(no_mangle)]
-pub extern "C" fn cmv_timestamp_from_u64(val: u64, value: &mut u64) -> u32
+pub fn cmv_timestamp_from_u64(val: u64, value: &mut u64) -> u32
     ensures { Reports (make_stamp val) result (value.old ∷ []) (value.new ∷ []) }
 {
     match Timestamp::from_u64(val) {
@@ -65,8 +61,7 @@ pub extern "C" fn cmv_timestamp_from_u64(val: u64, value: &mut u64) -> u32
 }
 
 // Timestamp::likely_wrapped_since, of two numbers that are timestamps
-#[unsafe(no_mangle)]
-pub extern "C" fn cmv_timestamp_likely_wrapped_since(val: u64, since: u64, wrapped: &mut u64) -> u32
+pub fn cmv_timestamp_likely_wrapped_since(val: u64, since: u64, wrapped: &mut u64) -> u32
     ensures { Reports (wrap_answer val since) result (wrapped.old ∷ []) (wrapped.new ∷ []) }
 {
     let TimestampMade::Done(a) = Timestamp::from_u64(val) else {
@@ -80,8 +75,7 @@ pub extern "C" fn cmv_timestamp_likely_wrapped_since(val: u64, since: u64, wrapp
 }
 
 // Timestamp::MAX and Timestamp::TIMEBASE
-#[unsafe(no_mangle)]
-pub extern "C" fn cmv_timestamp_constants(max: &mut u64, timebase: &mut u64) -> u32
+pub fn cmv_timestamp_constants(max: &mut u64, timebase: &mut u64) -> u32
     ensures { Reports (answer done ((2 ^ 33 - 1) ∷ 90_000 ∷ [])) result (max.old ∷ timebase.old ∷ [])
         (max.new ∷ timebase.new ∷ []) }
 {

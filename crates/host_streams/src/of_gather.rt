@@ -6,10 +6,10 @@ ghost use Rattle.gather.specs.Row.{gathering_row, moves, row_gather, row_gather_
 ghost use Rattle.host.specs.Reports.{Reports};
 
 use crate::strayed;
+use event_log::Event;
 use gather::row::RowRead;
 use gather::{Gathering, HeldRead, Lies, Verdict, row};
 use host::numbers::{DONE, NO_SYNC, OUT_OF_RANGE, STORE_FULL, WRONG_LENGTH};
-use event_log::Event;
 
 fn number_of(v: Verdict) -> u32
     ensures { result ≡ store_number v }
@@ -34,8 +34,7 @@ fn moves_state(number: u32) -> bool
 }
 
 // The row of a state before its first event, with no unit (Gathering::new): 0, 0, 255
-#[unsafe(no_mangle)]
-pub extern "C" fn cmv_gather_fresh(state: &mut [u64; 3])
+pub fn cmv_gather_fresh(state: &mut [u64; 3])
     ensures { state.new ≡ gathering_row emptied }
 {
     row::write(Gathering::new(), state);
@@ -43,8 +42,7 @@ pub extern "C" fn cmv_gather_fresh(state: &mut [u64; 3])
 
 // gather::gather over a lent row, of an event by its kind, place and length. On 0 and on 20 the row of the next state is written, on any
 // other refusal nothing is.
-#[unsafe(no_mangle)]
-pub extern "C" fn cmv_gather(
+pub fn cmv_gather(
     state: &mut [u64; 3],
     packet: &[u8],
     kind: u8,
@@ -78,8 +76,7 @@ pub extern "C" fn cmv_gather(
 
 // The bytes so far (gather::held and gather::bytes): of which slice they are a part, 0 the packet and 1 the store, and the place and
 // length of the part.
-#[unsafe(no_mangle)]
-pub extern "C" fn cmv_gather_bytes(
+pub fn cmv_gather_bytes(
     state: &[u64; 3],
     packet: &[u8],
     store: &[u8],

@@ -7,30 +7,27 @@ ghost use Rattle.host.specs.Reports.{Reports};
 ghost use Rattle.machine.specs.Row.{row_of, row_step, row_step_of, row_run, row_run_of};
 
 use crate::{step_number, strayed};
-use host::numbers::{DONE, OUT_OF_RANGE, WRONG_LENGTH};
 use event_log::EntryRead;
+use host::numbers::{DONE, OUT_OF_RANGE, WRONG_LENGTH};
 use machine::row::RowRead;
 use machine::{Machine, row};
 
 // The row of a machine before its first packet, with an empty log, in the crate's mode (Machine::new): 0, 0, 255, 0, 0, 0
-#[unsafe(no_mangle)]
-pub extern "C" fn cmv_machine_fresh(state: &mut [u64; 7])
+pub fn cmv_machine_fresh(state: &mut [u64; 7])
     ensures { state.new ≡ row_of (fresh Mode.Crate) }
 {
     row::write(Machine::new(), state);
 }
 
 // The same in the standard mode (Machine::standard): 1, 0, 255, 0, 0, 0
-#[unsafe(no_mangle)]
-pub extern "C" fn cmv_machine_standard(state: &mut [u64; 7])
+pub fn cmv_machine_standard(state: &mut [u64; 7])
     ensures { state.new ≡ row_of (fresh Mode.Standard) }
 {
     row::write(Machine::standard(), state);
 }
 
 // machine::step over a lent row
-#[unsafe(no_mangle)]
-pub extern "C" fn cmv_machine_step(state: &mut [u64; 7], packet: &[u8], log: &mut [u8]) -> u32
+pub fn cmv_machine_step(state: &mut [u64; 7], packet: &[u8], log: &mut [u8]) -> u32
     ensures { row_step result state.new log.new
         ≡ row_step_of state.old packet.now log.old }
 {
@@ -50,8 +47,7 @@ pub extern "C" fn cmv_machine_step(state: &mut [u64; 7], packet: &[u8], log: &mu
 }
 
 // machine::run over a lent row: how many packets were taken, and the number that the next one was refused with, 0 where all were taken
-#[unsafe(no_mangle)]
-pub extern "C" fn cmv_machine_run(
+pub fn cmv_machine_run(
     state: &mut [u64; 7],
     bytes: &[u8],
     log: &mut [u8],
@@ -85,8 +81,7 @@ pub extern "C" fn cmv_machine_run(
 }
 
 // event_log::entry_at
-#[unsafe(no_mangle)]
-pub extern "C" fn cmv_log_entry_at(
+pub fn cmv_log_entry_at(
     log: &[u8],
     at: usize,
     kind: &mut u64,

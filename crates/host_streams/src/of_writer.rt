@@ -9,8 +9,7 @@ use writer::{Route, Written, row};
 
 // writer::write of the unit that a row stands for: on 0 the number of packets is reported. A row that stands for no unit is 14, before
 // what the writer refuses.
-#[unsafe(no_mangle)]
-pub extern "C" fn cmv_write(
+pub fn cmv_write(
     pid: u16,
     counter: u8,
     unit: &[u64; 20],

@@ -218,8 +218,7 @@ fn payload(buf: &[u8], end: usize, fields: &mut [u64; 34])
 
 // scrambling control, priority, alignment, copyright, original, the flags and the header data length; then the word and the numbers of each of
 // PTS and DTS, ESCR, ES rate, trick mode, raw trick mode, copy info, CRC and extension; then place and length of the payload
-#[unsafe(no_mangle)]
-pub extern "C" fn cmv_pes_contents_fields(buf: &[u8], fields: &mut [u64; 34]) -> u32
+pub fn cmv_pes_contents_fields(buf: &[u8], fields: &mut [u64; 34]) -> u32
     ensures { Reports (contents_fields buf.now) result fields.old fields.new }
 {
     match contents::places(buf) {

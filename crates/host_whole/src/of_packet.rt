@@ -12,8 +12,7 @@ use host::of_packet::{
 
 // error, start, priority, PID, counter, scrambled, scheme, whether an adaptation field and a payload are there by the control bits; then
 // word, place and length of the adaptation field, and of the payload
-#[unsafe(no_mangle)]
-pub extern "C" fn cmv_packet_fields(packet: &[u8], fields: &mut [u64; 15]) -> u32
+pub fn cmv_packet_fields(packet: &[u8], fields: &mut [u64; 15]) -> u32
     ensures { Reports (packet_fields packet.now) result fields.old fields.new }
 {
     let word = cmv_packet_try_new(packet);

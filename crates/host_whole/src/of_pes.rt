@@ -36,8 +36,7 @@ fn parsed(id: u8) -> u64
 
 // kind and low of the stream id, as cmv_pes_header_stream_id gives them; kind and length of PES_packet_length; kind, place and length of
 // what follows the head
-#[unsafe(no_mangle)]
-pub extern "C" fn cmv_pes_header_fields(buf: &[u8], fields: &mut [u64; 7]) -> u32
+pub fn cmv_pes_header_fields(buf: &[u8], fields: &mut [u64; 7]) -> u32
     ensures { Reports (header_fields buf.now) result fields.old fields.new }
 {
     let word = cmv_pes_header_from_bytes(buf);

@@ -1,9 +1,0 @@
-use Rattle.host.proofs.Laws.{reports_of, answer-laws, host_laws}
-use Rattle.adaptation.specs.Extension.{given_ltw}
-use Rattle.host.proofs.of_adaptation.cmv_adaptation_extension_ltw_offset.Statement.{statement}
-use Rattle.host.proofs.of_adaptation.cmv_adaptation_extension_ltw_offset.Tie as tie
-
-pub cmv_adaptation_extension_ltw_offset_spec : {M : Type 1} → statement M
-cmv_adaptation_extension_ltw_offset_spec {M} = let answers = tie.spec {M = M} (λ c κs. search host_laws) (λ c. search host_laws) (λ c. search host_laws) (λ c. search host_laws)
-    (λ c. search host_laws) (λ c. search host_laws) (λ c. search (reports_of given_ltw, answer-laws)) (λ c. search (reports_of given_ltw, answer-laws))
-    (λ c. search (reports_of given_ltw, answer-laws)) (λ c. search (reports_of given_ltw, answer-laws)) in tie.close answers

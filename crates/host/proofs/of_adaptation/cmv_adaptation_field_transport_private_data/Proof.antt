@@ -1,7 +1,0 @@
-use Rattle.host.proofs.Laws.{reports_as, host_laws}
-use Rattle.host.proofs.of_adaptation.cmv_adaptation_field_transport_private_data.Statement.{statement}
-use Rattle.host.proofs.of_adaptation.cmv_adaptation_field_transport_private_data.Tie as tie
-
-pub cmv_adaptation_field_transport_private_data_spec : {M : Type 1} → statement M
-cmv_adaptation_field_transport_private_data_spec {M} = let answers = tie.spec {M = M} (λ c κs. search host_laws) (λ c κs. search host_laws) (λ c. search reports_as)
-    in tie.close answers

@@ -1,9 +1,0 @@
-use Rattle.host.proofs.Laws.{reports_case, answer-laws, host_laws}
-use Rattle.adaptation.specs.Adaptation.{given_part}
-use Rattle.host.proofs.of_adaptation.report_part.Statement.{statement}
-use Rattle.host.proofs.of_adaptation.report_part.Tie as tie
-
-pub report_part_spec : {M : Type 1} → statement M
-report_part_spec {M} = let answers = tie.spec {M = M} (λ c. search host_laws) (λ c. search host_laws) (λ c. search host_laws) (λ c. search host_laws)
-    (λ c. search (reports_case given_part, answer-laws)) (λ c. search (reports_case given_part, answer-laws)) (λ c. search (reports_case given_part, answer-laws))
-    (λ c. search (reports_case given_part, answer-laws)) in tie.close answers

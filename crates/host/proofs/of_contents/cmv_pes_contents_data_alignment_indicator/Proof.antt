@@ -1,9 +1,0 @@
-use Rattle.host.proofs.Laws.{reports_of, answer-laws, host_laws}
-use Rattle.contents.specs.Given.{given_alignment}
-use Rattle.host.proofs.of_contents.cmv_pes_contents_data_alignment_indicator.Statement.{statement}
-use Rattle.host.proofs.of_contents.cmv_pes_contents_data_alignment_indicator.Tie as tie
-
-pub cmv_pes_contents_data_alignment_indicator_spec : {M : Type 1} → statement M
-cmv_pes_contents_data_alignment_indicator_spec {M} = let answers = tie.spec {M = M} (λ c κs. search host_laws) (λ c. search host_laws) (λ c κs. search host_laws)
-    (λ c. search host_laws) (λ c κs. search host_laws) (λ c. search (reports_of given_alignment, answer-laws)) (λ c. search (reports_of given_alignment, answer-laws))
-    in tie.close answers

@@ -1,8 +1,0 @@
-use Rattle.host.proofs.Laws.{reports_of, answer-laws, host_laws}
-use Rattle.contents.specs.Given.{given_original}
-use Rattle.host.proofs.of_contents.cmv_pes_contents_original_or_copy.Statement.{statement}
-use Rattle.host.proofs.of_contents.cmv_pes_contents_original_or_copy.Tie as tie
-
-pub cmv_pes_contents_original_or_copy_spec : {M : Type 1} → statement M
-cmv_pes_contents_original_or_copy_spec {M} = let answers = tie.spec {M = M} (λ c κs. search host_laws) (λ c. search host_laws) (λ c κs. search host_laws) (λ c. search host_laws)
-    (λ c κs. search host_laws) (λ c. search (reports_of given_original, answer-laws)) (λ c. search (reports_of given_original, answer-laws)) in tie.close answers

@@ -1,6 +1,0 @@
-use Rattle.host.proofs.Laws.{reports_as, host_laws}
-use Rattle.host.proofs.of_contents.cmv_pes_contents_pes_header_data_len.Statement.{statement}
-use Rattle.host.proofs.of_contents.cmv_pes_contents_pes_header_data_len.Tie as tie
-
-pub cmv_pes_contents_pes_header_data_len_spec : {M : Type 1} → statement M
-cmv_pes_contents_pes_header_data_len_spec {M} = let answers = tie.spec {M = M} (λ c κs. search host_laws) (λ c κs. search host_laws) (λ c. search reports_as) in tie.close answers

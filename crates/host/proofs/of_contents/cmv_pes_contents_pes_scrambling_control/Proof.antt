@@ -1,7 +1,0 @@
-use Rattle.host.proofs.Laws.{reports_as, host_laws}
-use Rattle.host.proofs.of_contents.cmv_pes_contents_pes_scrambling_control.Statement.{statement}
-use Rattle.host.proofs.of_contents.cmv_pes_contents_pes_scrambling_control.Tie as tie
-
-pub cmv_pes_contents_pes_scrambling_control_spec : {M : Type 1} → statement M
-cmv_pes_contents_pes_scrambling_control_spec {M} = let answers = tie.spec {M = M} (λ c κs. search host_laws) (λ c κs. search host_laws) (λ c. search reports_as)
-    in tie.close answers

@@ -1,8 +1,0 @@
-use Rattle.host.proofs.Laws.{reports_case, answer-laws, host_laws}
-use Rattle.contents.specs.Given.{given_byte}
-use Rattle.host.proofs.of_contents.report_byte.Statement.{statement}
-use Rattle.host.proofs.of_contents.report_byte.Tie as tie
-
-pub report_byte_spec : {M : Type 1} → statement M
-report_byte_spec {M} = let answers = tie.spec {M = M} (λ c. search host_laws) (λ c. search host_laws) (λ c. search host_laws) (λ c κs. search host_laws)
-    (λ c. search (reports_case given_byte, answer-laws)) (λ c. search (reports_case given_byte, answer-laws)) in tie.close answers
