@@ -43,6 +43,11 @@ fn packet(start: bool, counter: usize) -> [u8; 188]
     p
 }
 
+// Zeros, with room for the most packets: made apart, so that no other proof has them written out.
+fn zeros() -> [u8; BYTES] {
+    [0; BYTES]
+}
+
 // So many packets, of which so many, the first ones, have the start flag; and the counter of the very first.
 #[derive(Clone, Copy)]
 struct Row {
@@ -160,7 +165,7 @@ fn show_row(
         return Ok(());
     }
     let size = packets * 188;
-    let mut bytes = [0u8; BYTES];
+    let mut bytes = zeros();
     fill(row, &mut bytes);
     let mut log = [0u8; LOG];
     both(rt, from, m, row, part(&bytes, 0, size), &mut log, enough)?;
