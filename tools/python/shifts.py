@@ -3,7 +3,7 @@
 The module of each static library below is compiled for each target as the toolchain compiles it for its own, at -O3, so that the functions
 named are kept, with what they call inlined. A 64-bit shift is one in the optimised module, whatever the target then makes of it; by 32 bits it
 is none, since that only says which of two registers is meant. A helper is a function of the compiler's own library that the target's code
-calls, with a name that begins with '__'.
+calls, with a name that begins with '__'. That copies or clears memory is no helper: on Arm alone its name is of that form.
 """
 
 import re
@@ -24,7 +24,7 @@ LAYOUT = re.compile(r"^target (?:datalayout|triple) = .*\n", re.M)
 PROCESSOR = re.compile(r' "(?:target-cpu|target-features|probe-stack|stack-probe-size)"="[^"]*"')
 EXPORTED = re.compile(r"^define (?!internal )", re.M)
 SHIFT = re.compile(r"= (?:shl|lshr|ashr) (?:\w+ )*(?:i64|<\d+ x i64>) (?!\S+, 32$).*$", re.M)
-HELPER = re.compile(r"^\s+(?:blx?|b|calll?|jmp)\s+(__\w+)", re.M)
+HELPER = re.compile(r"^\s+(?:blx?|b|calll?|jmp)\s+(__(?!aeabi_mem)\w+)", re.M)
 
 
 def kept(module, functions):

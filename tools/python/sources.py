@@ -84,11 +84,16 @@ def public_functions(crate):
     return {} if crate in PROGRAMS or exports_of(crate) else {name: one for name, one in functions(crate).items() if one.public}
 
 
+def on_one_line(head):
+    """A head without the layout that its length gives it."""
+    return re.sub(r",? \)", ")", " ".join(head.split()).replace("( ", "("))
+
+
 def unlike(crate):
     """The public functions of a static library that are not, by module, name, parameters and promise, those of the crate that it exports, and
     the public functions of that crate's modules `of_..` that it does not export."""
-    plain = {name: " ".join(one.head.replace('extern "C" ', "").split()) for name, one in functions(crate).items() if one.public}
-    meant = {name: " ".join(one.head.split()) for name, one in public_functions(exports_of(crate)).items()}
+    plain = {name: on_one_line(one.head.replace('extern "C" ', "")) for name, one in functions(crate).items() if one.public}
+    meant = {name: on_one_line(one.head) for name, one in public_functions(exports_of(crate)).items()}
     exported = {name for name in meant if name.startswith("of_") and name.rpartition("::")[2].startswith("cmv_")}
     return sorted({name for name in plain if plain[name] != meant.get(name)} | (exported - set(plain)))
 
