@@ -1,11 +1,11 @@
-use Rattle.host_whole.proofs.Rows.{clock-laws}
+use Rattle.host_whole.proofs.Rows.{clock-laws, clock-absent, clock-row}
 use Rattle.host_whole.proofs.of_contents.clock.Goals as goal
 
 pub bounds-buf-1 : goal.bounds-buf-1
 bounds-buf-1 c = search clock-laws
 
 pub returns-then-buf-eq0 : goal.returns-then-buf-eq0
-returns-then-buf-eq0 c = search clock-laws
+returns-then-buf-eq0 c = search clock-absent
 
 pub bounds-buf-at : goal.bounds-buf-at
 bounds-buf-at c = search clock-laws
@@ -41,4 +41,4 @@ pub bounds-buf-at-6 : goal.bounds-buf-at-6
 bounds-buf-at-6 c = search clock-laws
 
 pub returns : goal.returns
-returns c = search clock-laws
+returns c = search clock-row

@@ -1,4 +1,4 @@
-use Rattle.host_whole.proofs.Rows.{fixed_laws}
+use Rattle.host_whole.proofs.Rows.{fixed_laws, fixed-row}
 use Rattle.host_whole.proofs.of_contents.fixed.Goals as goal
 
 pub bounds-buf-0 : goal.bounds-buf-0
@@ -11,4 +11,4 @@ pub bounds-buf-2 : goal.bounds-buf-2
 bounds-buf-2 c = search fixed_laws
 
 pub returns : goal.returns
-returns c = search fixed_laws
+returns c = search fixed-row
