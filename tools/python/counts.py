@@ -84,13 +84,13 @@ def reading():
 
 
 def lines_of(paths, comment):
-    """Lines that are neither blank nor a comment."""
+    """Lines that are neither blank nor begin as a comment, or as what is left out beside it."""
     lines = [line.strip() for path in paths for line in path.read_text().splitlines()]
     return sum(1 for line in lines if line and not line.startswith(comment))
 
 
 def crate_row(crate, seconds):
-    in_code, in_proofs = lines_of(code(crate), "//"), lines_of(proofs(crate), "--")
+    in_code, in_proofs = lines_of(code(crate), ("//", "#![")), lines_of(proofs(crate), "--")
     in_specs = lines_of((TOP / "crates" / crate / "specs").glob("*.antt"), "--")
     ratio = f"{in_proofs / in_code:.1f}" if in_code else "-"
     lines = [grouped(in_code), grouped(in_specs), grouped(in_proofs)]

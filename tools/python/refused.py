@@ -61,9 +61,9 @@ def own_refusal(log, crate, dies, *passed_over):
     return None
 
 
-def not_tried(log):
-    """Why nothing was put before the prover, if that is so: the changed sources cannot be read."""
-    said = re.search(r"^.*\berror\[[\w-]+\].*$", log, re.M)
+def unread(log):
+    """What is said of code or definitions that cannot be read, if anything is: then little or nothing was put before the prover."""
+    said = re.search(r"^.*\berror\[[\w-]+\].*$|^(?:\./)?(?:src|specs)/\S+ error: .*$", log, re.M)
     return said[0] if said else None
 
 
@@ -103,8 +103,8 @@ def judge(crate, where, wrongs, logs):
             lines.append(f"{crate}/{wrong.name}: REFUSED FOR ITS SHAPE ALONE, in {wrong.dies} ({where})")
         else:
             lines.append(f"{crate}/{wrong.name}: NOT REFUSED by the proof of {wrong.dies} ({where})")
-    if refused < len(wrongs) and not_tried(logs[0]):
-        lines.append(f"{crate}: {where} cannot be read: {not_tried(logs[0])[:160]}")
+    if refused < len(wrongs) and unread(logs[0]):
+        lines.append(f"{crate}: {where} cannot be read: {unread(logs[0])[:160]}")
     return refused, lines
 
 
