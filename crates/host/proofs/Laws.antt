@@ -7,7 +7,6 @@ use mathlib.Core.Logic.{◌↔◌}
 use Prim.Native.Nat.{ℕ, ◌+◌, ◌*◌}
 use native.Mathlib.Omega.{arith}
 use lib.Dec.{eqb}
-use borrow.Author.Rules.{rules}
 use borrow.Author.Tests.{eq-eqb, ne_eqb, eqb-true}
 use lib.ListN.{length, get_or}
 use mir.Val.{bool_byte}
@@ -28,16 +27,13 @@ use Rattle.control.specs.Clock.{clock, clock_values, clock_number, given_made, g
 use Rattle.control.proofs.Laws.{clock-made, counter_made, number-refused, number_of_lem}
 use Rattle.control.specs.declared.Compared.{Compared}
 use Rattle.control.specs.Control.{given_counter, given_scheme, make_counter, compare, follows, is_scrambled, scrambling, read_scheme}
-use Rattle.pes.specs.declared.StreamId.{StreamId}
-use Rattle.pes.specs.Stream.{stream_values}
 use Rattle.packet.specs.Packet.{not_packet, read_byte_four}
 use Rattle.contents.specs.declared.Refusal.{Refusal}
-use Rattle.contents.specs.declared.DsmTrickMode.{DsmTrickMode}
 use Rattle.contents.specs.declared.EsRate.{EsRate}
 use Rattle.contents.specs.declared.EsRateMade.{EsRateMade}
 use Rattle.contents.specs.declared.EsRateNumber.{EsRateNumber}
 use Rattle.contents.specs.Contents.{make_rate, rate_bytes}
-use Rattle.contents.specs.Given.{refusal, trick_values, given_rate_made, given_rate_number}
+use Rattle.contents.specs.Given.{refusal, given_rate_made, given_rate_number}
 use Rattle.contents.proofs.Laws.{rate-refused, rate-kept}
 use Rattle.host.specs.Clocks.{same_pair, same_answer, compared_number, compared_answer, follows_answer, scrambling_answer}
 use Rattle.host.specs.Stamps.{wrap_answer}
@@ -57,9 +53,6 @@ module _ {R : Type 0} (given : R → Answer) {r k : R} where
   given-case e f = ap given (sym f) ∙ e
 
   module _ {w : ℕ} {lent left : List ℕ} where
-    pub reports_case : r ≡ k → Reports (given k) w lent left → Reports (given r) w lent left
-    reports_case f t = rw f t
-
     -- the answer that the call ensures
     pub reports_of : {a : Answer} → given r ≡ a → r ≡ k → Reports (given k) w lent left → Reports a w lent left
     reports_of e f t = reports_as (given-case e f) t
@@ -73,26 +66,9 @@ module _ {R : Type 0} (given : R → Answer) {r k : R} where
         → Reports (and_then (given k) (and_then (given n) a)) w lent left → Reports (and_then p (and_then q a)) w lent left
     reports_behind p q a e f g h t = rw (← e, f, ← g, h) t
 
--- an answer to a number that a call keeps
-pub reports_at : (f : ℕ → Answer) {m n w : ℕ} {lent left : List ℕ} → m ≡ n → Reports (f m) w lent left → Reports (f n) w lent left
-reports_at f e t = rw (← e) t
-
--- out numbers that are those of the answer, one by one
-pub truth-as : (b t : Bool) → b ≡ t → bool_byte b ≡ truth t
-truth-as b t e = ap truth e
-
+-- numbers that are those of the answer, one by one
 pub number-as : {m n : ℕ} {ms ns : List ℕ} → m ≡ n → ms ≡ ns → m ∷ ms ≡ n ∷ ns
 number-as e f = ap₂ ◌∷◌ e f
-
-pub last_as : {a b c m n : ℕ} → m ≡ n → a ∷ b ∷ c ∷ m ∷ [] ≡ a ∷ b ∷ c ∷ n ∷ []
-last_as {a} {b} {c} e = ap (λ (z : ℕ). a ∷ b ∷ c ∷ z ∷ []) e
-
-pub four_as : {k a b c d p q r s : ℕ} → a ≡ p → b ≡ q → c ≡ r → d ≡ s → k ∷ a ∷ b ∷ c ∷ d ∷ [] ≡ k ∷ p ∷ q ∷ r ∷ s ∷ []
-four_as e f g h = rw (e, f, g, h)
-
--- a marker bit that is not set, by its number
-pub marker_reports : {b w : ℕ} {lent : List ℕ} → w ≡ 12 + 256 * b → Reports (answer 12 (b ∷ [])) w lent lent
-marker_reports e = reports (omega arith) refl
 
 -- a refusal of the contents is reported whatever numbers are lent
 pub refused_any : {w : ℕ} {lent : List ℕ} (r : Refusal) → Reports (refusal r) w [] [] → Reports (refusal r) w lent lent
@@ -226,16 +202,7 @@ pub four_reports : {R : Type 0} (f : ℕ → Answer) (given : R → Answer) (xs 
     → Reports (through f (given k)) w lent left → Reports (unless (not_packet xs) (f (get_or xs 3 0))) w lent left
 four_reports f given xs p e t = reports_of (λ k. through f (given k)) (ap (through f) p ∙ four_through f xs) e t
 
--- ---- heads and contents
-
-pub id-values : (s k : StreamId) (vs : List ℕ) → s ≡ k → vs ≡ stream_values k → vs ≡ stream_values s
-id-values s k vs e h = rw e h
-
-pub trick-values : (t k : DsmTrickMode) (vs : List ℕ) → t ≡ k → vs ≡ filled (0 ∷ 0 ∷ 0 ∷ 0 ∷ []) (trick_values k) → vs ≡ filled (0 ∷ 0 ∷ 0 ∷ 0 ∷ []) (trick_values t)
-trick-values t k vs e h = rw e h
-
-pub id-reports : {vs : List ℕ} {a b l m : ℕ} → a ∷ b ∷ [] ≡ vs → Reports (answer 0 vs) 0 (l ∷ m ∷ []) (a ∷ b ∷ [])
-id-reports e = rw (← e) (reports refl refl)
+-- ---- rates
 
 pub rate-none : (n : ℕ) {lent : List ℕ} (m : EsRateMade) → given_rate_made m ≡ make_rate n → m ≡ EsRateMade.OutOfRange → Reports (rate_bytes n) 14 lent lent
 rate-none n m p i = rw (rate-refused n (given-case given_rate_made p i)) (reports refl refl)
@@ -244,12 +211,6 @@ pub rate-some : (n : ℕ) {w : ℕ} {lent left : List ℕ} (m : EsRateMade) (e :
     → given_rate_number r ≡ rate_bytes e.0 → r ≡ k → Reports (given_rate_number k) w lent left → Reports (rate_bytes n) w lent left
 rate-some n m e r k p i q j t = reports_of given_rate_number (q ∙ rate-kept n e.0 (given-case given_rate_made p i)) j t
 
--- What `search` is given. For what a call, a match or a cast asks: `host_laws`. For what is reported: the laws of its shape and no others, so that
--- a wrong answer is refused soon.
-pub ruleset answer-laws = (reports, number-as, truth-as, marker_reports, refused_any)
-
-pub ruleset made_laws = (wrap_reports, same_reports, number-none, number-some, compared_reports, follows-reports, rate-none, rate-some, answer-laws)
-
-pub ruleset list_laws = (scrambling-reports, id-values, id-reports, trick-values, last_as, four_as, answer-laws)
-
-pub ruleset host_laws = (reports, reports_as, number-as, truth-as, marker_reports, refused_any, rules)
+-- What `search` is given for what is made of two numbers, or read of one that was made: these laws and no others, so that a wrong answer is
+-- refused soon.
+pub ruleset made_laws = (wrap_reports, same_reports, number-none, number-some, compared_reports, follows-reports, rate-none, rate-some)

@@ -6,20 +6,18 @@ use mathlib.Core.List.{List, [], ◌∷◌}
 use Prim.Native.Nat.{ℕ}
 use lib.Dec.{eqb}
 use lib.ListN.{length, get_or}
-use borrow.Author.Rules.{rules}
 use borrow.Author.Tests.{eq-eqb, ne_eqb}
 use Rattle.bits.specs.Answer.{answer, pick, first_of, other}
-use Rattle.machine.specs.declared.Mode.{Mode}
 use Rattle.machine.specs.declared.Machine.{Machine}
 use Rattle.machine.specs.declared.row.RowRead.{RowRead}
 use Rattle.machine.specs.declared.row.RowRead.TheVariants.{Is, Stray}
-use Rattle.machine.specs.Step.{fresh, not_taken, Outcome, step_of, log_of}
+use Rattle.machine.specs.Step.{not_taken, Outcome, step_of, log_of}
 use Rattle.machine.specs.Run.{not_run, Reported, report_of, ran_log}
 use Rattle.machine.proofs.Rows.{stray-number}
 use Rattle.machine.specs.Row.{machine_of, row_of, step_by, row_step, row_step_of, run_by, row_run, row_run_of}
 use Rattle.event_log.specs.declared.Event.{Event}
 use Rattle.host.specs.Reports.{Reports}
-use Rattle.host.proofs.Laws.{reports, reports_as, reports_of, host_laws}
+use Rattle.host.proofs.Laws.{reports, reports_as, reports_of}
 use Rattle.machine.proofs.Laws.{run_length, run-state}
 use Rattle.writer.specs.declared.Route.{Route}
 use Rattle.writer.specs.declared.Unit.{Unit as WrittenUnit}
@@ -160,26 +158,14 @@ module _ (r : writer-row.RowRead) (q : Route) (w xs ys : List ℕ) (of : r ≡ u
     pub written_output : (zs : List ℕ) → zs ≡ output_of q u xs ys → zs ≡ row_output_of q w xs ys
     written_output zs g = g ∙ (ap (λ (t : writer-row.RowRead). output_by t q xs ys) (sym e) ∙ output-by)
 
--- ---- the rows of the states before the first packet
+-- ---- what `search` is given for each entry: its laws and no others, so that a wrong answer is refused soon
 
-pub machine-fresh : (mo : Mode) (m : Machine) (xs : List ℕ) → m ≡ fresh mo → xs ≡ row_of m → xs ≡ row_of (fresh mo)
-machine-fresh mo m xs e f = f ∙ ap row_of e
+pub ruleset step-laws = (step-taken, step-refused, step-strayed)
 
-pub gather-fresh : (g : Gathering) (xs : List ℕ) → g ≡ gather.emptied → xs ≡ store.gathering_row g → xs ≡ store.gathering_row gather.emptied
-gather-fresh g xs e f = f ∙ ap store.gathering_row e
+pub ruleset run-laws = (run-done, run-refused, run-strayed, run_length, run-state)
 
--- ---- what `search` is given: for a number that chooses, and for each entry
+pub ruleset gathered-laws = (gather-moves, gather-stays, gather_strayed)
 
-pub ruleset chosen_laws = (eq-eqb, ne_eqb, rules)
+pub ruleset held-laws = (held-in_packet, held-in-store, held-reports, held-strayed, reports)
 
-pub ruleset step-laws = (step-taken, step-refused, step-strayed, rules)
-
-pub ruleset run-laws = (run-done, run-refused, run-strayed, run_length, run-state, rules)
-
-pub ruleset gathered-laws = (gather-moves, gather-stays, gather_strayed, rules)
-
-pub ruleset held-laws = (held-in_packet, held-in-store, held-reports, held-strayed, host_laws)
-
-pub ruleset written_laws = (written_reports, written_output, write_strayed, output_strayed, host_laws)
-
-pub ruleset fresh-laws = (machine-fresh, gather-fresh, rules)
+pub ruleset written_laws = (written_reports, written_output, write_strayed, output_strayed, reports)

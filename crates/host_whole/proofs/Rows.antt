@@ -15,8 +15,7 @@ use borrow.Author.Tests.{ne_eqb, eq-eqb}
 use Rattle.bits.specs.Answer.{Answer, answer, pick}
 use Rattle.bits.proofs.Checks.{none-holds, passed, refused_by}
 use Rattle.bits.specs.Field.{bit, field}
-use Rattle.bits.proofs.Fields.{Known, in_byte, byte-field, byte_wide}
-use Rattle.timestamp.specs.declared.Timestamp.{Timestamp}
+use Rattle.bits.proofs.Fields.{Known, in_byte, byte-field}
 use Rattle.timestamp.specs.declared.TimestampRead.{TimestampRead}
 use Rattle.timestamp.specs.Stamp.{given, read_stamp}
 use Rattle.contents.specs.declared.Refusal.{Refusal}
@@ -234,12 +233,6 @@ module _ (c : List ℕ) (z : (read_contents c).number ≡ 0) where
 
 -- a timestamp at a place, by what its reader answers
 module _ (at : ℕ) (c : List ℕ) (r : TimestampRead) (g : given r ≡ read_stamp (take (length c - at) (drop at c))) where
-  pub inner-done : (t : Timestamp) (v : ℕ) → r ≡ TimestampRead.Done t → v ≡ t.val → 0 ∷ v ∷ [] ≡ inner (read_stamp (drop at c))
-  inner-done t v e d = rw d (ap inner (stamp-done at c r g t e))
-
-  pub inner-marker : (b : ℕ) → r ≡ TimestampRead.MarkerBitNotSet b → 12 ∷ b ∷ [] ≡ inner (read_stamp (drop at c))
-  inner-marker b e = ap inner (stamp-marker at c r g b e)
-
   pub inner-short : at + 5 ≤ length c → r ≡ TimestampRead.WrongLength → 12 ∷ 0 ∷ [] ≡ inner (read_stamp (drop at c))
   inner-short h e = ap inner (stamp-short at c r g h e)
 
@@ -420,24 +413,25 @@ module _ (c : List ℕ) (z : (read_contents c).number ≡ 0) where
     pub all_parts : Reports (contents_fields c) 0 l m9
     all_parts = report l m9 h whole
 
--- What `search` is given for the parts, and for the whole.
-pub ruleset clock-laws = (byte_there, clock-wide, clock-absent, clock-first, clock-later, clock-row, rules)
+-- What `search` is given: for the bytes that each part reads, for its timestamps, and for the whole. What a part stores is proved by one law,
+-- which its answer names, so that a wrong answer is refused soon.
+pub ruleset clock-laws = (byte_there, clock-wide, clock-first, clock-later, rules)
 
-pub ruleset rate-laws = (byte_there, rate-wide, rate-absent, rate-first, rate-later, rate-row, rules)
+pub ruleset rate-laws = (byte_there, rate-wide, rate-first, rate-later, rules)
 
-pub ruleset trick-laws = (byte_there, byte_wide, trick-absent, trick-first, trick-row, rules)
+pub ruleset trick-laws = (byte_there, trick-first, rules)
 
-pub ruleset copy-laws = (byte_there, copy-absent, copy-first, copy-clear, copy-row, rules)
+pub ruleset copy-laws = (byte_there, copy-first, rules)
 
-pub ruleset crc-laws = (byte_there, crc-wide, crc-absent, crc-first, crc-later, crc-row, rules)
+pub ruleset crc-laws = (byte_there, crc-wide, crc-first, crc-later, rules)
 
-pub ruleset end_laws = (byte_there, fields-before, end_there, extension-absent, extension-row, payload-row, rules)
+pub ruleset end_laws = (byte_there, fields-before, end_there, rules)
 
-pub ruleset times-laws = (byte_there, times-absent, times-invalid, pts_there, pts-row, dts_there, pair_row, rules)
+pub ruleset times-laws = (byte_there, pts_there, dts_there, rules)
 
-pub ruleset stamp-laws = (inner-done, inner-marker, inner-short, inner-prefix, rules)
+pub ruleset stamp-laws = (inner-short, inner-prefix)
 
-pub ruleset fixed_laws = (byte_there, fixed-row, rules)
+pub ruleset fixed_laws = (byte_there, rules)
 
 pub ruleset row_laws = (
   refused-whole,
