@@ -1,13 +1,12 @@
 // Packets in, lines on the page out.
-ghost use Rattle.std.specs.Prelude.{◌≡◌, IfOk};
+ghost use Rattle.std.specs.Prelude.{◌≡◌};
 ghost use Rattle.bits.specs.Numbers.{log_full};
 ghost use Rattle.machine.specs.Step.{verdict_number};
 
 use crate::lines;
 use crate::lines::LOG;
 use machine::{Machine, Stepped, Verdict};
-use page::PAGE;
-use std::io;
+use page::{Output, PAGE};
 use std::io::Write;
 
 // The machine after the packets so far, how many bytes at the start of the block are held for a packet that is not whole yet, how
@@ -59,10 +58,10 @@ fn step(mut m: Machine, packet: &[u8], log: &mut [u8; LOG]) -> Stepped
 // as many as the packet's index.
 fn take(
     packet: &[u8],
-    out: &mut impl Write,
+    out: &mut Output<impl Write>,
     page: &mut [u8; PAGE],
     mut list: List,
-) -> io::Result<List> {
+) -> List {
     let mut log = [0u8; LOG];
     let m = list.machine;
     let s = step(m, packet, &mut log);
@@ -71,47 +70,42 @@ fn take(
     let n = number(v);
     list.machine = after;
     if n == 0 {
-        list.used = lines::events(out, page, list.used, &log, after.place)?;
+        list.used = lines::events(out, page, list.used, &log, after.place);
     } else {
-        list.used = lines::refused(out, page, list.used, after.taken, n)?;
+        list.used = lines::refused(out, page, list.used, after.taken, n);
         list.more = false;
     }
-    Ok(list)
+    list
 }
 
 // Every whole packet of the bytes, up to one that is refused.
 pub fn packets(
     bytes: &[u8],
-    out: &mut impl Write,
+    out: &mut Output<impl Write>,
     page: &mut [u8; PAGE],
     mut list: List,
-) -> io::Result<List> {
+) -> List {
     let mut at = 0;
     let mut left = bytes.len() / 188;
     while left > 0 && list.more {
-        list = take(&bytes[at..at + 188], out, page, list)?;
+        list = take(&bytes[at..at + 188], out, page, list);
         at += 188;
         left -= 1;
     }
-    Ok(list)
+    list
 }
 
 // The end of the input: bytes that make no whole packet are refused as a packet of a wrong length.
-pub fn end(
-    tail: &[u8],
-    out: &mut impl Write,
-    page: &mut [u8; PAGE],
-    mut list: List,
-) -> io::Result<List>
-    ensures { IfOk result (λ after. after.held ≡ 0) }
+pub fn end(tail: &[u8], out: &mut Output<impl Write>, page: &mut [u8; PAGE], mut list: List) -> List
+    ensures { result.held ≡ 0 }
 {
     if tail.len() > 0 {
-        list = take(tail, out, page, list)?;
+        list = take(tail, out, page, list);
     } else {
         let m = list.machine;
-        list.used = lines::packets(out, page, list.used, m.taken)?;
+        list.used = lines::packets(out, page, list.used, m.taken);
     }
     list.held = 0;
     list.more = false;
-    Ok(list)
+    list
 }

@@ -4,10 +4,10 @@
 mod lines;
 mod listing;
 
-ghost use Rattle.std.specs.Prelude.{◌≤◌, length, IfOk};
+ghost use Rattle.std.specs.Prelude.{◌≤◌, length};
 
 use listing::List;
-use page::PAGE;
+use page::{Output, PAGE};
 use std::io;
 use std::io::{ErrorKind, Read, Write};
 use std::process::ExitCode;
@@ -36,12 +36,12 @@ fn turn(
     rt: &impl Eprint,
     input: &mut impl Read,
     block: &mut [u8],
-    out: &mut impl Write,
+    out: &mut Output<impl Write>,
     page: &mut [u8; PAGE],
     mut list: List,
-) -> io::Result<List>
+) -> List
     requires { list.held ≤ length block.old }
-    ensures { IfOk result (λ after. after.held ≤ length block.new) }
+    ensures { result.held ≤ length block.new }
 {
     let held = list.held;
     let got = match input.read(&mut block[held..]) {
@@ -50,43 +50,48 @@ fn turn(
             // a message that cannot be written is lost
             let _ = eprintln!(rt; "lister: standard input cannot be read");
             list.more = false;
-            return Ok(list);
+            return list;
         }
     };
     let filled = held + got;
     if filled == held {
         return listing::end(&block[0..held], out, page, list);
     }
-    let mut next = listing::packets(&block[0..filled], out, page, list)?;
+    let mut next = listing::packets(&block[0..filled], out, page, list);
     next.held = keep(block, filled);
-    Ok(next)
+    next
 }
 
-// A proved loop ends, and nothing says that the input does: so the turns count down from a number that no run uses up.
+// A proved loop ends, and nothing says that the input does: so the turns count down from a number that no run uses up. Nothing more is
+// read once the list cannot be written.
 fn turns(
     rt: &impl Eprint,
     input: &mut impl Read,
     block: &mut [u8],
-    out: &mut impl Write,
+    out: &mut Output<impl Write>,
     page: &mut [u8; PAGE],
     mut list: List,
-) -> io::Result<List>
+) -> List
     requires { list.held ≤ length block.old }
 {
     let mut left = u64::MAX;
-    while left > 0 && list.more {
-        list = turn(rt, input, block, out, page, list)?;
+    while left > 0 && list.more && out.error.is_none() {
+        list = turn(rt, input, block, out, page, list);
         left -= 1;
     }
-    Ok(list)
+    list
 }
 
-fn run(rt: &(impl Input + Print + Eprint)) -> io::Result<()> {
+// Lists all, and gives back the error of a write that failed.
+fn run(rt: &(impl Input + Print + Eprint)) -> Option<io::Error> {
     let mut input = rt.reader();
-    let mut out = io::writer(rt);
+    let mut out = Output {
+        to: io::writer(rt),
+        error: None,
+    };
     let mut block = [0u8; BLOCK];
     let mut page = [0u8; PAGE];
-    let used = lines::title(&mut out, &mut page, 0)?;
+    let used = lines::title(&mut out, &mut page, 0);
     let list = turns(
         rt,
         &mut input,
@@ -94,16 +99,16 @@ fn run(rt: &(impl Input + Print + Eprint)) -> io::Result<()> {
         &mut out,
         &mut page,
         List::new(used),
-    )?;
-    page::flush(&mut out, &page, list.used)?;
-    Ok(())
+    );
+    page::flush(&mut out, &page, list.used);
+    out.error
 }
 
 // A list that cannot be written is said, but where the reader of a pipe has gone.
 fn main(rt: HostRuntime) -> ExitCode {
     match run(&rt) {
-        Ok(()) => ExitCode::SUCCESS,
-        Err(e) => {
+        None => ExitCode::SUCCESS,
+        Some(e) => {
             if e.kind() != ErrorKind::BrokenPipe {
                 let _ = eprintln!(rt; "lister: standard output cannot be written");
             }

@@ -1,7 +1,9 @@
--- The two ways of putting a byte on a page, and a text with one more byte put.
+-- The two ways of putting a byte on a page, and a text with its first byte put.
 -- Assumes nothing.
-use Rattle.std.proofs.Common.{◌≡◌, refl, ℕ, ◌+◌, ◌≤◌, ◌<◌, List, [], ◌∷◌, ◌++◌, length, get_or, set, take, Option, None, Some}
+use Rattle.std.proofs.Common.{◌≡◌, refl, sym, ◌∙◌, ℕ, ◌+◌, ◌≤◌, ◌<◌, List, [], ◌∷◌, ◌++◌, length, get_or, set, take, drop, Option, None, Some, IsNone, IsSome}
 use Rattle.std.proofs.lemmas.List.{take_more, append_assoc}
+use Rattle.std.proofs.Math.ListN.{drop_of_length-le}
+use Rattle.std.proofs.Math.Seq.{drop-cons}
 use native.Mathlib.Numerals.{add-one}
 use borrow.Author.Tests.{lt-ltb, le-ltb}
 use Rattle.page.specs.Page.{Page, page_of, with_byte, with_bytes, Delivers}
@@ -14,14 +16,13 @@ pub full : (bs : List ℕ) (n b : ℕ) → 8192 ≤ n → page_of (set bs 0 b) 1
 unfolding with_byte
 full bs n b h = rw (le-ltb n 8192 h) refl
 
--- the bytes of a text up to i are put, and one more
+-- what is promised, x, by the page so far and the bytes that are left: one byte more, and none
 
-pub push : (p : Page) (bs : List ℕ) (b : ℕ) → with_bytes p (bs ++ b ∷ []) ≡ with_byte (with_bytes p bs) b
-push p [] b = refl
-push p (c ∷ bs) b = push (with_byte p c) bs b
+pub next : (x p q : Page) (bs : List ℕ) (i : ℕ) → x ≡ with_bytes p (drop i bs) → i < length bs → q ≡ with_byte p (get_or bs i 0) → x ≡ with_bytes q (drop (i + 1) bs)
+next x p q bs i s h e = s ∙ rw (e, add-one, drop-cons bs i 0 h) refl
 
-pub next : (p q r : Page) (bs : List ℕ) (i : ℕ) → q ≡ with_bytes p (take i bs) → i < length bs → r ≡ with_byte q (get_or bs i 0) → r ≡ with_bytes p (take (i + 1) bs)
-next p q r bs i s h e = rw (e, s, take_more bs i 0 h, push) refl
+pub past : (x p : Page) (bs : List ℕ) (i : ℕ) → x ≡ with_bytes p (drop i bs) → length bs ≤ i → p ≡ x
+past x p bs i s h = sym (s ∙ rw (drop_of_length-le bs h) refl)
 
 -- what reaches the output with a text's bytes up to i, and with one more
 
@@ -33,3 +34,8 @@ delivers-push (Some xs) (Some ys) (Some zs) p q r bs b d e = rw (e, d, append_as
 
 pub delivers-next : (o m n : Option (List ℕ)) (p q r bs : List ℕ) (i : ℕ) → Delivers o m p q (take i bs) → i < length bs → Delivers m n q r (get_or bs i 0 ∷ []) → Delivers o n p r (take (i + 1) bs)
 delivers-next o m n p q r bs i d h e = rw (take_more bs i 0 h) (delivers-push o m n p q r (take i bs) (get_or bs i 0) d e)
+
+-- no error after a call: none before it, for an error stays
+pub none-before : {E : Type 0} (o n : Option E) → (IsSome o → n ≡ o) → IsNone n → IsNone o
+none-before None n stays h = refl
+none-before (Some e) n stays h = rw (stays refl) at h

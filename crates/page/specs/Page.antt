@@ -1,5 +1,5 @@
 -- The page that a program's output is gathered on.
-use Rattle.std.specs.Prelude.{◌≡◌, ℕ, suc, ◌<◌, ◌≤◌, ltb, List, [], ◌∷◌, ◌++◌, length, take, set, Option, None, Some, ⊤}
+use Rattle.std.specs.Prelude.{◌≡◌, ℕ, suc, ltb, List, [], ◌∷◌, ◌++◌, set, Option, None, Some, ⊤}
 use Rattle.bits.specs.Answer.{pick}
 
 -- the bytes of a page, and how many of them are used
@@ -18,10 +18,6 @@ with_byte p b = pick (ltb p.used 8192) (page_of (set p.bytes p.used b) (suc p.us
 abbrev pub with_bytes : Page → List ℕ → Page
 with_bytes p [] = p
 with_bytes p (b ∷ bs) = with_bytes (with_byte p b) bs
-
--- where a byte of the text cannot be put: the page is full, and it has the bytes before
-abbrev pub StopsFull : Page → List ℕ → List ℕ → Type 0
-StopsFull p bs now = (k : ℕ) × (k < length bs) × (8192 ≤ (with_bytes p (take k bs)).used) × (now ≡ (with_bytes p (take k bs)).bytes)
 
 -- the known bytes of the output and after them those that wait on the page, before p and then q, grow by bs
 abbrev pub Delivers : Option (List ℕ) → Option (List ℕ) → List ℕ → List ℕ → List ℕ → Type 0

@@ -1,61 +1,81 @@
 // A program's output is gathered on a page, which is written when it is full: one system call for many lines. A function that adds to the
-// page gives back how much of it is then used. A write that fails is given back as its error, and bytes may be missing then.
+// page gives back how much of it is then used. A write that fails is not reported here: the output keeps its error, and bytes are missing then.
 #![tactic(auto)]
 
-ghost use Rattle.std.specs.Prelude.{◌≡◌, ◌≤◌, IfOk, OnOk, OnErr, take, ◌∷◌, []};
+ghost use Rattle.std.specs.Prelude.{◌≡◌, IsNone, IsSome, take, ◌∷◌, []};
 ghost use Rattle.std.specs.Io.KnownBytes.{Appends};
-ghost use Rattle.page.specs.Page.{page_of, with_byte, with_bytes, Delivers, StopsFull};
+ghost use Rattle.page.specs.Page.{page_of, with_byte, with_bytes, Delivers};
 
 use std::io;
 use std::io::Write;
 
 pub const PAGE: usize = 8192;
 
+// Where the pages go, and the first error of a write, after which nothing more is written.
+#[derive(Drop)]
+pub struct Output<W> {
+    pub to: W,
+    pub error: Option<io::Error>,
+}
+
+impl<W: Write> Output<W> {
+    fn write(&mut self, bytes: &[u8])
+        ensures writes { IsNone self.new.error → Appends (W.contents self.old.to) (W.contents self.new.to) bytes.now }
+        ensures failed { IsSome self.old.error → self.new ≡ self.old }
+    {
+        if self.error.is_none() {
+            if let Err(e) = self.to.write_all(bytes) {
+                self.error = Some(e);
+            }
+        }
+    }
+}
+
 // Writes the used part of the page, of which nothing is used then.
-pub fn flush<W: Write>(out: &mut W, page: &[u8; PAGE], used: usize) -> io::Result<usize>
-    ensures ok { IfOk result (λ n. n ≡ 0) }
-    ensures writes { OnOk result (Appends (W.contents out.old) (W.contents out.new) (take used page.now)) }
+pub fn flush<W: Write>(out: &mut Output<W>, page: &[u8; PAGE], used: usize) -> usize
+    ensures unused { result ≡ 0 }
+    ensures writes { IsNone out.new.error → Appends (W.contents out.old.to) (W.contents out.new.to) (take used page.now) }
+    ensures failed { IsSome out.old.error → out.new ≡ out.old }
 {
     let bytes: &[u8] = page;
     if used < PAGE {
-        out.write_all(&bytes[0..used])?;
+        out.write(&bytes[0..used]);
     } else {
-        out.write_all(bytes)?;
+        out.write(bytes);
     }
-    Ok(0)
+    0
 }
 
-pub fn put<W: Write>(out: &mut W, page: &mut [u8; PAGE], used: usize, b: u8) -> io::Result<usize>
-    ensures ok { IfOk result (λ n. page_of page.new n ≡ with_byte (page_of page.old used) b) }
-    ensures delivers { IfOk result (λ n.
-        Delivers (W.contents out.old) (W.contents out.new) (take used page.old) (take n page.new) (b ∷ [])) }
-    ensures err_full { OnErr result (PAGE ≤ used) }
-    ensures err_unchanged { OnErr result (page.new ≡ page.old) }
+pub fn put<W: Write>(out: &mut Output<W>, page: &mut [u8; PAGE], used: usize, b: u8) -> usize
+    ensures page { page_of page.new result ≡ with_byte (page_of page.old used) b }
+    ensures delivers { IsNone out.new.error
+        → Delivers (W.contents out.old.to) (W.contents out.new.to) (take used page.old) (take result page.new) (b ∷ []) }
+    ensures failed { IsSome out.old.error → out.new ≡ out.old }
 {
     if used < PAGE {
         page[used] = b;
-        return Ok(used + 1);
+        return used + 1;
     }
-    flush(out, page, used)?;
+    flush(out, page, used);
     page[0] = b;
-    Ok(1)
+    1
 }
 
 pub fn text<W: Write>(
-    out: &mut W,
+    out: &mut Output<W>,
     page: &mut [u8; PAGE],
     mut used: usize,
     bytes: &[u8],
-) -> io::Result<usize>
-    ensures ok { IfOk result (λ n. page_of page.new n ≡ with_bytes (page_of page.old used) bytes.now) }
-    ensures delivers { IfOk result (λ n.
-        Delivers (W.contents out.old) (W.contents out.new) (take used page.old) (take n page.new) bytes.now) }
-    ensures err { OnErr result (StopsFull (page_of page.old used) bytes.now page.new) }
+) -> usize
+    ensures page { page_of page.new result ≡ with_bytes (page_of page.old used) bytes.now }
+    ensures delivers { IsNone out.new.error
+        → Delivers (W.contents out.old.to) (W.contents out.new.to) (take used page.old) (take result page.new) bytes.now }
+    ensures failed { IsSome out.old.error → out.new ≡ out.old }
 {
     let mut i = 0;
     while i < bytes.len() {
-        used = put(out, page, used, bytes[i])?;
+        used = put(out, page, used, bytes[i]);
         i += 1;
     }
-    Ok(used)
+    used
 }

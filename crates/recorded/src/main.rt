@@ -13,7 +13,7 @@ mod timestamps;
 
 use answers::{Answered, answer};
 use input::ROOM;
-use page::PAGE;
+use page::{Output, PAGE};
 use std::io;
 use std::io::{Read, Write};
 
@@ -32,10 +32,10 @@ struct Fill {
 fn reply(
     line: &[u8; ROOM],
     digits: usize,
-    to: &mut impl Write,
+    to: &mut Output<impl Write>,
     page: &mut [u8; PAGE],
     used: usize,
-) -> io::Result<usize> {
+) -> usize {
     let n = input::whole(digits);
     if n == 0 {
         return output::unknown(to, page, used);
@@ -51,83 +51,90 @@ fn reply(
 fn take(
     b: u8,
     line: &mut [u8; ROOM],
-    to: &mut impl Write,
+    to: &mut Output<impl Write>,
     page: &mut [u8; PAGE],
     mut fill: Fill,
-) -> io::Result<Fill> {
+) -> Fill {
     if b == b'\n' {
-        fill.used = reply(line, fill.digits, to, page, fill.used)?;
+        fill.used = reply(line, fill.digits, to, page, fill.used);
         fill.digits = 0;
     } else {
         fill.digits = input::push(line, fill.digits, b);
     }
-    Ok(fill)
+    fill
 }
 
 fn take_all(
     block: &[u8],
     line: &mut [u8; ROOM],
-    to: &mut impl Write,
+    to: &mut Output<impl Write>,
     page: &mut [u8; PAGE],
     mut fill: Fill,
-) -> io::Result<Fill> {
+) -> Fill {
     let mut i = 0;
     while i < block.len() {
-        fill = take(block[i], line, to, page, fill)?;
+        fill = take(block[i], line, to, page, fill);
         i += 1;
     }
-    Ok(fill)
+    fill
 }
 
 // Reads once. What came may be of any length: a line goes on in the next block. A read that fails ends the input.
 fn turn(
     from: &mut impl Read,
     line: &mut [u8; ROOM],
-    to: &mut impl Write,
+    to: &mut Output<impl Write>,
     page: &mut [u8; PAGE],
     mut fill: Fill,
-) -> io::Result<Fill> {
+) -> Fill {
     let mut block = [0u8; BLOCK];
     match from.read(&mut block) {
         Ok(n) if n > 0 => take_all(&block[..n], line, to, page, fill),
         _ => {
             fill.more = false;
-            Ok(fill)
+            fill
         }
     }
 }
 
-// A proved loop ends, and nothing says that the input does: so the turns count down from a number that no run uses up.
+// A proved loop ends, and nothing says that the input does: so the turns count down from a number that no run uses up. Nothing more is
+// read once the answers cannot be written.
 fn turns(
     from: &mut impl Read,
     line: &mut [u8; ROOM],
-    to: &mut impl Write,
+    to: &mut Output<impl Write>,
     page: &mut [u8; PAGE],
-) -> io::Result<Fill> {
+) -> Fill {
     let mut fill = Fill {
         digits: 0,
         used: 0,
         more: true,
     };
     let mut left = u64::MAX;
-    while left > 0 && fill.more {
-        fill = turn(from, line, to, page, fill)?;
+    while left > 0 && fill.more && to.error.is_none() {
+        fill = turn(from, line, to, page, fill);
         left -= 1;
     }
-    Ok(fill)
+    fill
 }
 
 fn main(rt: HostRuntime) -> io::Result<()> {
     let mut from = rt.reader();
-    let mut to = io::writer(&rt);
+    let mut to = Output {
+        to: io::writer(&rt),
+        error: None,
+    };
     let mut line = [0u8; ROOM];
     let mut page = [0u8; PAGE];
-    let fill = turns(&mut from, &mut line, &mut to, &mut page)?;
+    let fill = turns(&mut from, &mut line, &mut to, &mut page);
     let mut used = fill.used;
     // The last line may have no line end.
     if fill.digits > 0 {
-        used = reply(&line, fill.digits, &mut to, &mut page, used)?;
+        used = reply(&line, fill.digits, &mut to, &mut page, used);
     }
-    page::flush(&mut to, &page, used)?;
-    Ok(())
+    page::flush(&mut to, &page, used);
+    match to.error {
+        None => Ok(()),
+        Some(e) => Err(e),
+    }
 }

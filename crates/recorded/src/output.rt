@@ -1,31 +1,30 @@
 // The lines of the output.
-use page::{PAGE, put, text};
-use std::io;
+use page::{Output, PAGE, put, text};
 use std::io::Write;
 
-fn decimal(to: &mut impl Write, page: &mut [u8; PAGE], used: usize, n: u64) -> io::Result<usize> {
+fn decimal(to: &mut Output<impl Write>, page: &mut [u8; PAGE], used: usize, n: u64) -> usize {
     let mut digits = itoa::Buffer::new();
     text(to, page, used, digits.format(n).as_bytes())
 }
 
-fn value(to: &mut impl Write, page: &mut [u8; PAGE], used: usize, n: u64) -> io::Result<usize> {
-    let used = put(to, page, used, b' ')?;
+fn value(to: &mut Output<impl Write>, page: &mut [u8; PAGE], used: usize, n: u64) -> usize {
+    let used = put(to, page, used, b' ');
     decimal(to, page, used, n)
 }
 
 fn values(
-    to: &mut impl Write,
+    to: &mut Output<impl Write>,
     page: &mut [u8; PAGE],
     mut used: usize,
     out: &[u64; 8],
     count: usize,
-) -> io::Result<usize> {
+) -> usize {
     let mut i = 0;
     while i < count && i < 8 {
-        used = value(to, page, used, out[i])?;
+        used = value(to, page, used, out[i]);
         i += 1;
     }
-    Ok(used)
+    used
 }
 
 // How many values an answer has: on 0 the `count` out numbers, with 12 and 13 the numbers named in the word, which are put
@@ -50,20 +49,20 @@ fn named(word: u32, count: usize, out: &mut [u64; 8]) -> usize {
 
 // The line of an answer.
 pub fn told(
-    to: &mut impl Write,
+    to: &mut Output<impl Write>,
     page: &mut [u8; PAGE],
     used: usize,
     word: u32,
     count: usize,
     out: &mut [u64; 8],
-) -> io::Result<usize> {
+) -> usize {
     let count = named(word, count, out);
-    let used = decimal(to, page, used, (word % 256) as u64)?;
-    let used = values(to, page, used, out, count)?;
+    let used = decimal(to, page, used, (word % 256) as u64);
+    let used = values(to, page, used, out, count);
     put(to, page, used, b'\n')
 }
 
 // The line for what is no query.
-pub fn unknown(to: &mut impl Write, page: &mut [u8; PAGE], used: usize) -> io::Result<usize> {
+pub fn unknown(to: &mut Output<impl Write>, page: &mut [u8; PAGE], used: usize) -> usize {
     text(to, page, used, b"?\n")
 }

@@ -3,8 +3,8 @@ use Rattle.std.proofs.Common.{arith}
 use Rattle.page.proofs.Laws.{room, full}
 use Rattle.page.proofs.put.Goals as goal
 
-pub returns-then-used-lt-PAGE-clause-ok : goal.returns-then-used-lt-PAGE-clause-ok
-returns-then-used-lt-PAGE-clause-ok g c = room _ _ _ (omega arith)
+pub returns-then-used-lt-PAGE-clause-page : goal.returns-then-used-lt-PAGE-clause-page
+returns-then-used-lt-PAGE-clause-page g c = room _ _ _ (omega arith)
 
-pub returns-clause-ok : goal.returns-clause-ok
-returns-clause-ok g c = full _ _ _ (omega arith)
+pub returns-clause-page : goal.returns-clause-page
+returns-clause-page g c = full _ _ _ (omega arith)
