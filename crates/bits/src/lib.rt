@@ -5,6 +5,26 @@
 ghost use Rattle.std.specs.Prelude.{◌≡◌, ◌<◌};
 ghost use Rattle.bits.specs.Answer.{part_at, placed_at};
 
+mod refusal;
+
+pub use refusal::Refusal;
+
+// Where a part of a slice lies.
+#[derive(Clone, Copy, Debug, PartialEq, Eq)]
+pub struct Extent {
+    pub place: usize,
+    pub length: usize,
+}
+
+impl Extent {
+    // The part of the slice; none where it would leave it.
+    pub fn of(self, buf: &[u8]) -> &[u8]
+        ensures { result.now ≡ part_at self.place self.length buf.now }
+    {
+        part(buf, self.place, self.length)
+    }
+}
+
 // A byte as a 64-bit number, with its bound.
 pub fn wide(b: u8) -> u64
     ensures { (result ≡ b) × (result < 256) }
@@ -43,9 +63,5 @@ pub fn copy_at(from: &[u8], into: &mut [u8], place: usize)
     if into.len() - place < from.len() {
         return;
     }
-    let mut j = 0;
-    while j < from.len() {
-        into[place + j] = from[j];
-        j += 1;
-    }
+    into[place..place + from.len()].copy_from_slice(from);
 }
