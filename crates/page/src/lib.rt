@@ -1,8 +1,8 @@
-// A program's output is gathered on a page, which is written when it is full: one system call for many lines. A function that adds to the
-// page gives back how much of it is then used. A write that fails is not reported here: the output keeps its error, and bytes are missing then.
+// A program's output is gathered on a page, which is written when it is full: one system call for many lines. A write that fails is not
+// reported here: the output keeps its error, and bytes are missing then.
 #![tactic(auto)]
 
-ghost use Rattle.std.specs.Prelude.{◌≡◌, IsNone, IsSome, take, ◌∷◌, []};
+ghost use Rattle.std.specs.Prelude.{◌≡◌, IsNone, IsSome, take, replicate, ◌∷◌, []};
 ghost use Rattle.std.specs.Io.KnownBytes.{Appends};
 ghost use Rattle.page.specs.Page.{page_of, with_byte, with_bytes, Delivers};
 
@@ -24,58 +24,69 @@ impl<W: Write> Output<W> {
         ensures failed { IsSome self.old.error → self.new ≡ self.old }
     {
         if self.error.is_none() {
-            if let Err(e) = self.to.write_all(bytes) {
-                self.error = Some(e);
-            }
+            self.error = self.to.write_all(bytes).err();
         }
     }
 }
 
-// Writes the used part of the page, of which nothing is used then.
-pub fn flush<W: Write>(out: &mut Output<W>, page: &[u8; PAGE], used: usize) -> usize
-    ensures unused { result ≡ 0 }
-    ensures writes { IsNone out.new.error → Appends (W.contents out.old.to) (W.contents out.new.to) (take used page.now) }
-    ensures failed { IsSome out.old.error → out.new ≡ out.old }
-{
-    let bytes: &[u8] = page;
-    if used < PAGE {
-        out.write(&bytes[0..used]);
-    } else {
-        out.write(bytes);
-    }
-    0
+// A page, of which so many bytes are used: they wait to be written. Fixed memory, so that a program cannot run out of it as it writes.
+#[derive(Drop)]
+pub struct Page<W> {
+    pub out: Output<W>,
+    pub bytes: [u8; PAGE],
+    pub used: usize,
 }
 
-pub fn put<W: Write>(out: &mut Output<W>, page: &mut [u8; PAGE], used: usize, b: u8) -> usize
-    ensures page { page_of page.new result ≡ with_byte (page_of page.old used) b }
-    ensures delivers { IsNone out.new.error
-        → Delivers (W.contents out.old.to) (W.contents out.new.to) (take used page.old) (take result page.new) (b ∷ []) }
-    ensures failed { IsSome out.old.error → out.new ≡ out.old }
-{
-    if used < PAGE {
-        page[used] = b;
-        return used + 1;
+impl<W: Write> Page<W> {
+    // An empty page.
+    pub fn new(to: W) -> Page<W>
+        ensures out { result.out ≡ record { to = to; error = None } }
+        ensures page { page_of result.bytes result.used ≡ page_of (replicate PAGE 0) 0 }
+    {
+        Page {
+            out: Output { to, error: None },
+            bytes: [0; PAGE],
+            used: 0,
+        }
     }
-    flush(out, page, used);
-    page[0] = b;
-    1
-}
 
-pub fn text<W: Write>(
-    out: &mut Output<W>,
-    page: &mut [u8; PAGE],
-    mut used: usize,
-    bytes: &[u8],
-) -> usize
-    ensures page { page_of page.new result ≡ with_bytes (page_of page.old used) bytes.now }
-    ensures delivers { IsNone out.new.error
-        → Delivers (W.contents out.old.to) (W.contents out.new.to) (take used page.old) (take result page.new) bytes.now }
-    ensures failed { IsSome out.old.error → out.new ≡ out.old }
-{
-    let mut i = 0;
-    while i < bytes.len() {
-        used = put(out, page, used, bytes[i]);
-        i += 1;
+    // Writes the used part, of which nothing is used then.
+    pub fn flush(&mut self)
+        ensures page { page_of self.new.bytes self.new.used ≡ page_of self.old.bytes 0 }
+        ensures writes { IsNone self.new.out.error
+            → Appends (W.contents self.old.out.to) (W.contents self.new.out.to) (take self.old.used self.old.bytes) }
+        ensures failed { IsSome self.old.out.error → self.new.out ≡ self.old.out }
+    {
+        let used = self.used.min(PAGE);
+        self.out.write(&self.bytes[..used]);
+        self.used = 0;
     }
-    used
+
+    // Adds a byte. A full page is written first.
+    pub fn put(&mut self, b: u8)
+        ensures page { page_of self.new.bytes self.new.used ≡ with_byte (page_of self.old.bytes self.old.used) b }
+        ensures delivers { IsNone self.new.out.error
+            → Delivers (W.contents self.old.out.to) (W.contents self.new.out.to)
+            (take self.old.used self.old.bytes) (take self.new.used self.new.bytes) (b ∷ []) }
+        ensures failed { IsSome self.old.out.error → self.new.out ≡ self.old.out }
+    {
+        if self.used >= PAGE {
+            self.flush();
+        }
+        self.bytes[self.used] = b;
+        self.used += 1;
+    }
+
+    // Adds bytes, one after another.
+    pub fn text(&mut self, bytes: &[u8])
+        ensures page { page_of self.new.bytes self.new.used ≡ with_bytes (page_of self.old.bytes self.old.used) bytes.now }
+        ensures delivers { IsNone self.new.out.error
+            → Delivers (W.contents self.old.out.to) (W.contents self.new.out.to)
+            (take self.old.used self.old.bytes) (take self.new.used self.new.bytes) bytes.now }
+        ensures failed { IsSome self.old.out.error → self.new.out ≡ self.old.out }
+    {
+        for b in bytes {
+            self.put(*b);
+        }
+    }
 }
