@@ -1,6 +1,5 @@
--- What the definitions of `specs/Stamp.antt` come to on the bytes, in each case. The functions' proofs are `search timestamp_laws`, where each
--- premise is a test or a promise that a need is handed and the answer is as the code computes it, or `LAW _ (omega arith)`, where a bound
--- decides. Callers' proofs cite them too.
+-- What the definitions of `specs/Stamp.antt` come to on the bytes, in each case. The functions' proofs are found by `timestamp_laws`, where each
+-- premise is a test or a promise that a need is handed and the answer is as the code computes it. Callers' proofs cite them too.
 -- Assumes nothing.
 use mathlib.Core.Path.{◌≡◌, refl, sym, ap, ◌∙◌}
 use mathlib.Core.Bool.{Bool, true, false}
@@ -11,14 +10,12 @@ use lib.ListN.{length, get_or}
 use lib.Dec.{eqb, leb, ltb}
 use mir.Val.{Fits}
 use mir.Syntax.{w8}
-use borrow.Author.Rules.{rules}
 use borrow.Author.Tests.{lt-ltb, le-ltb, le-leb, lt-leb, eq-eqb, ne_eqb}
 use Rattle.bits.specs.Answer.{Answer, answer, pick}
 use Rattle.bits.specs.Field.{bit, field}
 use Rattle.bits.proofs.Fields.{field-split, in_byte}
 use Rattle.bits.proofs.Tests.{limited-in, limited-out, limited-value}
-use Rattle.timestamp.specs.declared.TimestampRead.{TimestampRead}
-use Rattle.timestamp.specs.Stamp.{given, stamp_value, read_stamp, read_prefixed, likely_wrapped, make_stamp}
+use Rattle.timestamp.specs.Stamp.{stamp_value, read_stamp, read_prefixed, likely_wrapped, make_stamp}
 
 -- the value, out of the five bytes
 pub value_of : (xs : List ℕ) → stamp_value xs ≡ get_or xs 0 0 / 2 % 8 * 2 ^ 30
@@ -82,9 +79,9 @@ module _ (xs : List ℕ) (e : ℕ) where
     prefix_of : field xs 0 4 ≡ get_or xs 0 0 / 16
     prefix_of = omega (arith, in_byte xs 0 0 4 4 refl, k 0)
 
-    pub prefixed_same : (r : TimestampRead) → get_or xs 0 0 / 16 ≡ e → given r ≡ read_stamp xs → given r ≡ read_prefixed e xs
+    pub prefixed_same : (a : Answer) → get_or xs 0 0 / 16 ≡ e → a ≡ read_stamp xs → a ≡ read_prefixed e xs
     unfolding read_prefixed
-    prefixed_same r p g = g ∙ simp (le-ltb (length xs) 5 h, eq-eqb (field xs 0 4) e (prefix_of ∙ p))
+    prefixed_same a p g = g ∙ simp (le-ltb (length xs) 5 h, eq-eqb (field xs 0 4) e (prefix_of ∙ p))
 
     pub prefixed-other : (get_or xs 0 0 / 16 ≡ e → ⊥) → answer 13 (e ∷ (get_or xs 0 0 / 16) ∷ []) ≡ read_prefixed e xs
     unfolding read_prefixed
@@ -129,4 +126,6 @@ stamp-long xs n vs e h =
     ap (λ (a : Answer). a.number % 12) e
     ∙ rw (le-ltb (length xs) 5 h) (marker (eqb (bit xs 7) 0) (eqb (bit xs 23) 0) (eqb (bit xs 39) 0) (stamp_value xs))
 
-pub ruleset timestamp_laws = (stamp-short, stamp-marker_7, stamp-marker_23, stamp-marker_39, stamp-done, prefixed_short, prefixed_same, prefixed-other, wrapped_le, wrapped_gt, rules)
+pub ruleset stamp_laws = (stamp-short, stamp-marker_7, stamp-marker_23, stamp-marker_39, stamp-done, prefixed_short, prefixed_same, prefixed-other)
+
+pub ruleset timestamp_laws = (stamp_laws, made, not_made, wrapped_le, wrapped_gt)

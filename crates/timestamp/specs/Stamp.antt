@@ -3,18 +3,13 @@
 use Rattle.std.specs.Prelude.{Bool, false, List, [], ◌∷◌, ℕ, ◌+◌, ◌-◌, ◌*◌, ◌/◌, ◌^◌, length, eqb, leb, ltb}
 use Rattle.bits.specs.Answer.{Answer, answer, pick, limited}
 use Rattle.bits.specs.Field.{bit, field}
-use Rattle.bits.specs.Numbers.{done, wrong_length, marker_bit_not_set, incorrect_prefix_bits, out_of_range}
+use Rattle.bits.specs.Numbers.{done, wrong_length, marker_bit_not_set, incorrect_prefix_bits}
 use Rattle.bits.specs.Pack.{Part, part, joined, bytes_of}
-use Rattle.timestamp.specs.declared.TimestampMade.{TimestampMade}
-use Rattle.timestamp.specs.declared.TimestampRead.{TimestampRead}
-use Rattle.timestamp.specs.declared.TimestampRead.TheVariants.{Done, WrongLength, IncorrectPrefixBits, MarkerBitNotSet}
+use Rattle.timestamp.specs.declared.Timestamp.{Timestamp}
 
--- the number of an answer, and the values named with it
-abbrev pub given : TimestampRead → Answer
-given (Done t) = answer done (t.val ∷ [])
-given WrongLength = answer wrong_length []
-given (IncorrectPrefixBits e a) = answer incorrect_prefix_bits (e ∷ a ∷ [])
-given (MarkerBitNotSet b) = answer marker_bit_not_set (b ∷ [])
+-- a timestamp's one value
+abbrev pub timestamp_values : Timestamp → List ℕ
+timestamp_values t = t.val ∷ []
 
 -- the 33 bits of value: [32..30] from bit 4 on, [29..15] from bit 8 on, [14..0] from bit 24 on
 unfoldable pub stamp_value : List ℕ → ℕ
@@ -60,9 +55,5 @@ unfoldable pub likely_wrapped : ℕ → ℕ → Bool
 likely_wrapped a since = pick (leb a since) (leb (2 ^ 32) (since - a)) false
 
 -- of a number: the timestamp below 2 ^ 34, which is where the original asserts, else 14
-abbrev pub given_made : TimestampMade → Answer
-given_made (TimestampMade.Done t) = answer done (t.val ∷ [])
-given_made TimestampMade.OutOfRange = answer out_of_range []
-
 unfoldable pub make_stamp : ℕ → Answer
 make_stamp v = limited (ltb v (2 ^ 34)) (v ∷ [])
