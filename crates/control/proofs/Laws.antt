@@ -1,27 +1,22 @@
--- What the definitions of `specs/` come to on the bytes, in each case. The functions' proofs are `search control-laws`, where each premise is a
--- test or a promise that a need is handed and the answer is as the code computes it, or `LAW _ (omega arith)`, where a bound decides. Callers'
--- proofs cite them too.
+-- What the definitions of `specs/` come to on the bytes, in each case. The functions' proofs are found by `control_laws`, where each premise is a
+-- test or a promise that a need is handed and the answer is as the code computes it. Callers' proofs cite them too.
 -- Assumes nothing.
-use mathlib.Core.Path.{◌≡◌, refl, sym, ap, ap₂, ◌∙◌}
+use mathlib.Core.Path.{◌≡◌, refl, sym, ap, ◌∙◌}
 use mathlib.Core.Bool.{Bool, true, false, not}
 use mathlib.Core.List.{List, [], ◌∷◌}
-use mathlib.Core.Logic.{◌↔◌, ⊎_elim}
-use types.Run.{OneOf}
-use denote.Enum.Declared.{tag_of}
 use Prim.Native.Nat.{ℕ, ◌+◌, ◌*◌, ◌/◌, ◌%◌, ◌^◌, ◌≤◌, ◌<◌}
 use native.Mathlib.Omega.{arith}
 use lib.ListN.{length, get_or}
 use lib.Dec.{eqb, ltb}
-use borrow.Author.Rules.{rules}
 use borrow.Author.Tests.{lt-ltb, le-ltb, eq-eqb, ne_eqb, eqb-true}
-use Rattle.bits.specs.Answer.{Answer, answer, pick}
+use Rattle.bits.specs.Answer.{answer, pick}
 use Rattle.bits.specs.Field.{bit, field}
 use Rattle.bits.proofs.Fields.{field-split, in_byte}
 use Rattle.bits.proofs.Tests.{limited-in, limited-out, limited-values, limited-value, limited-refused}
 use Rattle.control.specs.declared.ClockRef.{ClockRef}
 use Rattle.control.specs.declared.Compared.{Compared}
 use Rattle.control.specs.declared.Compared.TheVariants.{Next, Same, Jump}
-use Rattle.control.specs.contracts.Compared.{the_type as compared-type}
+use Rattle.control.specs.contracts.ComparedPartialEq.TheImpl as compared_eq
 use Rattle.control.specs.Clock.{clock, clock_values, clock_base, clock_extension, clock_fits, read_clock, make_clock, clock_number}
 use Rattle.control.specs.Control.{has_adaptation_field, has_payload, scrambling, is_scrambled, read_scheme, compare, is_same, follows, make_counter, counter_of}
 use Rattle.control.specs.Control.{make_pid, pid_of}
@@ -76,24 +71,14 @@ module _ (a b : ℕ) where
     compared_jump h = simp (next-off h₁, ne_eqb a b h)
 
 -- the next counter is the one that follows
-abbrev is_next : Compared → Bool
-is_next Next = true
-is_next Same = false
-is_next Jump = false
-
-next-follows : (a b : ℕ) → is_next (compare a b) ≡ follows a b
+pub next-follows : (k : Compared) (a b : ℕ) → k ≡ compare a b → (compared_eq.ghosts).eq k Next ≡ follows a b
 unfolding compare
-next-follows a b = go (follows a b) (eqb a b)
+next-follows k a b e = rw e (go (follows a b) (eqb a b))
   where
-    go : (f e : Bool) → is_next (pick f Next (pick e Same Jump)) ≡ f
+    go : (f e : Bool) → (compared_eq.ghosts).eq (pick f Next (pick e Same Jump)) Next ≡ f
     go true e = refl
     go false true = refl
     go false false = refl
-
-not-next : (k : Compared) → OneOf (1 ∷ 2 ∷ []) (tag_of compared-type k) → false ≡ is_next k
-not-next Next t = absurd (⊎_elim (λ e. omega arith) (λ e. omega arith) t)
-not-next Same t = refl
-not-next Jump t = refl
 
 -- a counter that follows another is not the same, and the same one is equal
 pub apart : (a b : ℕ) → follows a b ≡ true → eqb a b ≡ false
@@ -108,18 +93,6 @@ same_equal a b = go (follows a b) (eqb a b) (apart a b)
     go true e h = sym (h refl)
     go false true h = refl
     go false false h = refl
-
-pub not_same : (k : Compared) → OneOf (0 ∷ 2 ∷ []) (tag_of compared-type k) → false ≡ is_same k
-not_same Next t = refl
-not_same Same t = absurd (⊎_elim (λ e. omega arith) (λ e. omega arith) t)
-not_same Jump t = refl
-
-module _ (a b : ℕ) (k : Compared) (e : k ≡ compare a b) where
-  pub follows_next : k ≡ Next → true ≡ follows a b
-  follows_next h = ap is_next (sym h ∙ e) ∙ next-follows a b
-
-  pub follows-not : OneOf (1 ∷ 2 ∷ []) (tag_of compared-type k) → false ≡ follows a b
-  follows-not t = not-next k t ∙ (ap is_next e ∙ next-follows a b)
 
 -- clock references
 module _ (xs : List ℕ) where
@@ -151,11 +124,10 @@ module _ (xs : List ℕ) where
       let q : e % 2 * 256 + f ≡ clock_extension xs = omega (arith, extension_of) in
       simp (le-ltb (length xs) 6 h, p, q)
 
--- six bytes hold a clock reference
-
-pub clock-long : (xs : List ℕ) (n : ℕ) (vs : List ℕ) → answer n vs ≡ read_clock xs → 6 ≤ length xs → n ≡ 0
+-- six bytes hold a clock reference, and are never refused
+pub clock-there : (xs : List ℕ) → 6 ≤ length xs → read_clock xs ≡ answer 0 (clock_base xs ∷ clock_extension xs ∷ [])
 unfolding read_clock
-clock-long xs n vs e h = ap (λ (a : Answer). a.number) e ∙ simp (le-ltb (length xs) 6 h)
+clock-there xs h = simp (le-ltb (length xs) 6 h)
 
 fits_in : (b e : ℕ) → (b < 2 ^ 33) × (e < 2 ^ 9) → clock_fits b e ≡ true
 fits_in b e h = simp (lt-ltb b (2 ^ 33) h.0, lt-ltb e (2 ^ 9) h.1)
@@ -233,14 +205,10 @@ pub pid_out : (n : ℕ) → 8192 ≤ n → answer 14 [] ≡ make_pid n
 unfolding make_pid
 pid_out n h = limited-out n (2 ^ 13) (n ∷ []) h
 
-module _ (a b : ClockRef) where
-  -- of two clock references with one base the extensions decide
-  pub same_base : a.base ≡ b.base → (eqb a.extension b.extension ≡ true) ↔ (a ≡ b)
-  same_base h =
-      (λ t. ap₂ clock h (eqb-true a.extension b.extension t), λ e. eq-eqb a.extension b.extension (ap (λ (c : ClockRef). c.extension) e))
+pub ruleset byte_laws = (payload-bit, adaptation-bit, scrambled-is, scheme-none, scheme-some, counter-is, pid-is)
 
-  -- two that differ in their base are not the same; the answer of `&&` where its first half fails is that half
-  pub other-base : (a.base ≡ b.base → ⊥) → (eqb a.base b.base ≡ true) ↔ (a ≡ b)
-  other-base h = (λ t. absurd (h (eqb-true a.base b.base t)), λ e. absurd (h (ap (λ (c : ClockRef). c.base) e)))
+pub ruleset compared_laws = (compared-next, compared_same, compared_jump, next-follows)
 
-pub ruleset control-laws = (payload-bit, adaptation-bit, scrambled-is, scheme-none, scheme-some, compared-next, compared_same, compared_jump, follows_next, follows-not, clock-short, clock-done, number_in, number-base_out, number-extension_out, counter-is, pid-is, same_base, other-base, rules)
+pub ruleset clock_laws = (clock-short, clock-done, made, made_base_out, made_extension_out, number_in, number-base_out, number-extension_out)
+
+pub ruleset control_laws = (byte_laws, compared_laws, clock_laws, counter_in, counter_out, pid_in, pid_out)

@@ -3,11 +3,8 @@
 use Rattle.std.specs.Prelude.{Bool, false, List, [], ◌∷◌, ℕ, ◌+◌, ◌*◌, ◌^◌, length, ltb}
 use Rattle.bits.specs.Answer.{Answer, answer, pick, limited}
 use Rattle.bits.specs.Field.{field}
-use Rattle.bits.specs.Numbers.{done, wrong_length, out_of_range}
+use Rattle.bits.specs.Numbers.{done, wrong_length}
 use Rattle.control.specs.declared.ClockRef.{ClockRef}
-use Rattle.control.specs.declared.ClockRead.{ClockRead}
-use Rattle.control.specs.declared.ClockMade.{ClockMade}
-use Rattle.control.specs.declared.ClockNumber.{ClockNumber}
 
 abbrev pub clock : ℕ → ℕ → ClockRef
 clock b e = record { base = b; extension = e }
@@ -15,18 +12,6 @@ clock b e = record { base = b; extension = e }
 -- a clock reference's two values
 abbrev pub clock_values : ClockRef → List ℕ
 clock_values c = c.base ∷ c.extension ∷ []
-
-abbrev pub given_read : ClockRead → Answer
-given_read (ClockRead.Done c) = answer done (clock_values c)
-given_read ClockRead.WrongLength = answer wrong_length []
-
-abbrev pub given_made : ClockMade → Answer
-given_made (ClockMade.Done c) = answer done (clock_values c)
-given_made ClockMade.OutOfRange = answer out_of_range []
-
-abbrev pub given_number : ClockNumber → Answer
-given_number (ClockNumber.Done n) = answer done (n ∷ [])
-given_number ClockNumber.OutOfRange = answer out_of_range []
 
 -- the table's base and extension, from a place on
 unfoldable pub clock_base : List ℕ → ℕ

@@ -1,14 +1,13 @@
 -- The packet's fourth byte (clause 2.4.3.2, the transport packet table): transport_scrambling_control 2 bits,
 -- adaptation_field_control 2 bits, continuity_counter 4 bits; and the numbers of counters and PIDs.
-use Rattle.std.specs.Prelude.{Bool, true, false, not, [], ◌∷◌, ℕ, ◌+◌, ◌%◌, ◌^◌, eqb, ltb}
+use Rattle.std.specs.Prelude.{Bool, true, false, not, List, [], ◌∷◌, ℕ, ◌+◌, ◌%◌, ◌^◌, eqb, ltb, Option, Some, None}
 use Rattle.bits.specs.Answer.{Answer, answer, pick, limited}
 use Rattle.bits.specs.Field.{field, flag}
-use Rattle.bits.specs.Numbers.{done, out_of_range}
+use Rattle.bits.specs.Numbers.{done}
+use Rattle.control.specs.declared.ContinuityCounter.{ContinuityCounter}
+use Rattle.control.specs.declared.Pid.{Pid}
 use Rattle.control.specs.declared.Compared.{Compared}
 use Rattle.control.specs.declared.Compared.TheVariants.{Next, Same, Jump}
-use Rattle.control.specs.declared.CounterMade.{CounterMade}
-use Rattle.control.specs.declared.PidMade.{PidMade}
-use Rattle.control.specs.declared.Scheme.{Scheme}
 
 -- adaptation_field_control: its first bit says that there is an adaptation field, its second that there is a payload
 unfoldable pub has_adaptation_field : ℕ → Bool
@@ -25,18 +24,17 @@ unfoldable pub is_scrambled : ℕ → Bool
 is_scrambled b = not (eqb (scrambling b) 0)
 
 -- not scrambled is kind 0, scrambled kind 1 with the scheme
-abbrev pub given_scheme : Scheme → Answer
-given_scheme Scheme.NotScrambled = answer done (0 ∷ [])
-given_scheme (Scheme.Scrambled s) = answer done (1 ∷ s ∷ [])
+abbrev pub scheme_values : Option ℕ → List ℕ
+scheme_values None = 0 ∷ []
+scheme_values (Some s) = 1 ∷ s ∷ []
 
 -- the scheme that transport_scrambling_control names
 unfoldable pub read_scheme : ℕ → Answer
 read_scheme b = pick (eqb (scrambling b) 0) (answer done (0 ∷ [])) (answer done (1 ∷ scrambling b ∷ []))
 
 -- a counter has 4 bits, and follows another that is one less, modulo 16
-abbrev pub given_counter : CounterMade → Answer
-given_counter (CounterMade.Done c) = answer done (c.val ∷ [])
-given_counter CounterMade.OutOfRange = answer out_of_range []
+abbrev pub counter_values : ContinuityCounter → List ℕ
+counter_values c = c.val ∷ []
 
 unfoldable pub make_counter : ℕ → Answer
 make_counter n = limited (ltb n (2 ^ 4)) (n ∷ [])
@@ -58,9 +56,8 @@ unfoldable pub counter_of : ℕ → ℕ
 counter_of b = field (b ∷ []) 4 4
 
 -- a PID has 13 bits
-abbrev pub given_pid : PidMade → Answer
-given_pid (PidMade.Done p) = answer done (p.0 ∷ [])
-given_pid PidMade.OutOfRange = answer out_of_range []
+abbrev pub pid_values : Pid → List ℕ
+pid_values p = p.0 ∷ []
 
 unfoldable pub make_pid : ℕ → Answer
 make_pid n = limited (ltb n (2 ^ 13)) (n ∷ [])

@@ -1,15 +1,18 @@
 // The small types of the original's packet.rs: the control bits of a packet's fourth byte, clock references, counters and PIDs.
-#![tactic(auto)]
+#![tactic(auto, using(crate::proofs::Laws::control_laws))]
 
-ghost use Rattle.std.specs.Prelude.{◌≡◌, true, ◌↔◌};
-ghost use Rattle.control.specs.Clock.{given_read, given_made, given_number, read_clock, make_clock, clock_number};
-ghost use Rattle.control.specs.Control.{has_adaptation_field, has_payload, is_scrambled, given_scheme, read_scheme, compare, follows};
-ghost use Rattle.control.specs.Control.{given_counter, make_counter, counter_of, given_pid, make_pid, pid_of};
+ghost use Rattle.std.specs.Prelude.{◌≡◌};
+ghost use Rattle.bits.specs.Answer.{answer};
+ghost use Rattle.bits.specs.Numbers.{done};
+ghost use Rattle.bits.specs.Refused.{given, number_values};
+ghost use Rattle.control.specs.Clock.{clock_values, read_clock, make_clock, clock_number};
+ghost use Rattle.control.specs.Control.{has_adaptation_field, has_payload, is_scrambled, scheme_values, read_scheme, compare, follows};
+ghost use Rattle.control.specs.Control.{counter_values, make_counter, counter_of, pid_values, make_pid, pid_of};
 
-use bits::wide;
+use bits::{Refusal, wide};
 
 // The adaptation_field_control bits; the other bits of the byte are kept and not looked at.
-#[derive(Clone, Copy)]
+#[derive(Clone, Copy, Debug, PartialEq, Eq)]
 pub struct AdaptationControl(u8);
 
 impl AdaptationControl {
@@ -33,15 +36,8 @@ impl AdaptationControl {
     }
 }
 
-// The scrambling scheme in use, if any.
-#[derive(Clone, Copy)]
-pub enum Scheme {
-    NotScrambled,
-    Scrambled(u8),
-}
-
 // The transport_scrambling_control bits; the other bits of the byte are kept and not looked at.
-#[derive(Clone, Copy)]
+#[derive(Clone, Copy, Debug, PartialEq, Eq)]
 pub struct TransportScramblingControl(u8);
 
 impl TransportScramblingControl {
@@ -58,14 +54,15 @@ impl TransportScramblingControl {
         self.0 / 64 != 0
     }
 
-    pub fn scheme(self) -> Scheme
-        ensures { given_scheme result ≡ read_scheme self.0 }
+    // The scheme in use, if any.
+    pub fn scheme(self) -> Option<u8>
+        ensures { answer done (scheme_values result) ≡ read_scheme self.0 }
     {
         let scheme = self.0 / 64;
         if scheme == 0 {
-            return Scheme::NotScrambled;
+            return None;
         }
-        Scheme::Scrambled(scheme)
+        Some(scheme)
     }
 }
 
@@ -76,37 +73,19 @@ const BIT_17: u64 = 1 << 17;
 const BIT_25: u64 = 1 << 25;
 
 // A 27 MHz clock reading: PCR, OPCR and ESCR.
-#[derive(Clone, Copy)]
+#[derive(Clone, Copy, Debug, PartialEq, Eq)]
 pub struct ClockRef {
     base: u64,
     extension: u16,
 }
 
-#[derive(Clone, Copy)]
-pub enum ClockRead {
-    Done(ClockRef),
-    WrongLength,
-}
-
-#[derive(Clone, Copy)]
-pub enum ClockMade {
-    Done(ClockRef),
-    OutOfRange,
-}
-
-#[derive(Clone, Copy)]
-pub enum ClockNumber {
-    Done(u64),
-    OutOfRange,
-}
-
 impl ClockRef {
     // The clock reference in the first 6 bytes.
-    pub fn from_slice(buf: &[u8]) -> ClockRead
-        ensures { given_read result ≡ read_clock buf.now }
+    pub fn from_slice(buf: &[u8]) -> Result<ClockRef, Refusal>
+        ensures { given clock_values result ≡ read_clock buf.now }
     {
         if buf.len() < 6 {
-            return ClockRead::WrongLength;
+            return Err(Refusal::WrongLength);
         }
         let b0 = wide(buf[0]);
         let b1 = wide(buf[1]);
@@ -114,23 +93,23 @@ impl ClockRef {
         let b3 = wide(buf[3]);
         let b4 = wide(buf[4]);
         let b5 = wide(buf[5]);
-        ClockRead::Done(ClockRef {
+        Ok(ClockRef {
             base: b0 * BIT_25 + b1 * BIT_17 + b2 * BIT_9 + b3 * 2 + b4 / 128,
             extension: (b4 % 2 * 256 + b5) as u16,
         })
     }
 
     // The clock reference of a base below 2^33 and an extension below 2^9.
-    pub fn from_parts(base: u64, extension: u16) -> ClockMade
-        ensures { given_made result ≡ make_clock base extension }
+    pub fn from_parts(base: u64, extension: u16) -> Result<ClockRef, Refusal>
+        ensures { given clock_values result ≡ make_clock base extension }
     {
         if 1 << 33 <= base {
-            return ClockMade::OutOfRange;
+            return Err(Refusal::OutOfRange);
         }
         if 1 << 9 <= extension {
-            return ClockMade::OutOfRange;
+            return Err(Refusal::OutOfRange);
         }
-        ClockMade::Done(ClockRef { base, extension })
+        Ok(ClockRef { base, extension })
     }
 
     pub fn base(self) -> u64
@@ -144,41 +123,32 @@ impl ClockRef {
     {
         self.extension
     }
+}
 
-    // The original's u64::from(ClockRef).
-    pub fn into_u64(self) -> ClockNumber
-        ensures { given_number result ≡ clock_number self.base self.extension }
-    {
-        if 1 << 33 <= self.base {
-            return ClockNumber::OutOfRange;
-        }
-        if 1 << 9 <= self.extension {
-            return ClockNumber::OutOfRange;
-        }
-        ClockNumber::Done(self.base * 300 + self.extension as u64)
-    }
+impl TryFrom<ClockRef> for u64 {
+    type Error = Refusal;
 
-    pub fn eq(self, other: ClockRef) -> bool
-        ensures { (result ≡ true) ↔ (self ≡ other) }
-    {
-        self.base == other.base && self.extension == other.extension
+    ghost try_from_gives = { λ c r. given number_values r ≡ clock_number c.base c.extension };
+
+    fn try_from(value: ClockRef) -> Result<u64, Refusal> {
+        if 1 << 33 <= value.base {
+            return Err(Refusal::OutOfRange);
+        }
+        if 1 << 9 <= value.extension {
+            return Err(Refusal::OutOfRange);
+        }
+        Ok(value.base * 300 + value.extension as u64)
     }
 }
 
 // A counter that shows where packets were lost: 0 to 15, one more with each packet that has a payload.
-#[derive(Clone, Copy)]
+#[derive(Clone, Copy, Debug, PartialEq, Eq)]
 pub struct ContinuityCounter {
     val: u8,
 }
 
-#[derive(Clone, Copy)]
-pub enum CounterMade {
-    Done(ContinuityCounter),
-    OutOfRange,
-}
-
 // A counter beside the last one: one more modulo 16, the same, or neither.
-#[derive(Clone, Copy)]
+#[derive(Clone, Copy, Debug, PartialEq, Eq)]
 pub enum Compared {
     Next,
     Same,
@@ -186,14 +156,13 @@ pub enum Compared {
 }
 
 impl ContinuityCounter {
-    pub fn new(count: u8) -> CounterMade
-        ensures { given_counter result ≡ make_counter count }
+    pub fn new(count: u8) -> Result<ContinuityCounter, Refusal>
+        ensures { given counter_values result ≡ make_counter count }
     {
-        if count < 16 {
-            CounterMade::Done(ContinuityCounter { val: count })
-        } else {
-            CounterMade::OutOfRange
+        if 16 <= count {
+            return Err(Refusal::OutOfRange);
         }
+        Ok(ContinuityCounter { val: count })
     }
 
     // Of the fourth byte of a packet.
@@ -225,43 +194,26 @@ impl ContinuityCounter {
     pub fn follows(self, other: ContinuityCounter) -> bool
         ensures { result ≡ follows self.val other.val }
     {
-        let Compared::Next = self.compare(other) else {
-            return false;
-        };
-        true
+        self.compare(other) == Compared::Next
     }
 }
 
 // A packet identifier: 13 bits.
-#[derive(Clone, Copy)]
+#[derive(Clone, Copy, Debug, PartialEq, Eq)]
 pub struct Pid(u16);
-
-#[derive(Clone, Copy)]
-pub enum PidMade {
-    Done(Pid),
-    OutOfRange,
-}
 
 impl Pid {
     pub const MAX_VALUE: u16 = 0x1fff;
 
     pub const PID_COUNT: usize = Pid::MAX_VALUE as usize + 1;
 
-    pub fn new(pid: u16) -> PidMade
-        ensures { given_pid result ≡ make_pid pid }
+    pub fn new(pid: u16) -> Result<Pid, Refusal>
+        ensures { given pid_values result ≡ make_pid pid }
     {
-        if pid <= Pid::MAX_VALUE {
-            PidMade::Done(Pid(pid))
-        } else {
-            PidMade::OutOfRange
+        if Pid::MAX_VALUE < pid {
+            return Err(Refusal::OutOfRange);
         }
-    }
-
-    // The same as `new`: what the original asserts there, it answers here by an error.
-    pub fn try_from(value: u16) -> PidMade
-        ensures { given_pid result ≡ make_pid value }
-    {
-        Pid::new(value)
+        Ok(Pid(pid))
     }
 
     // Of the second and third bytes of a packet.
@@ -270,18 +222,31 @@ impl Pid {
     {
         Pid(high as u16 % 32 * 256 + low as u16)
     }
+}
 
-    // The original's u16::from(Pid).
-    pub fn into_u16(self) -> u16
-        ensures { result ≡ self.0 }
-    {
-        self.0
+// The same as `new`: what the original asserts there, it answers here by an error.
+impl TryFrom<u16> for Pid {
+    type Error = Refusal;
+
+    ghost try_from_gives = { λ n r. given pid_values r ≡ make_pid n };
+
+    fn try_from(value: u16) -> Result<Pid, Refusal> {
+        Pid::new(value)
     }
+}
 
-    // The original's usize::from(Pid).
-    pub fn into_usize(self) -> usize
-        ensures { result ≡ self.0 }
-    {
-        self.0 as usize
+impl From<Pid> for u16 {
+    ghost from_gives = { λ p n. n ≡ p.0 };
+
+    fn from(pid: Pid) -> u16 {
+        pid.0
+    }
+}
+
+impl From<Pid> for usize {
+    ghost from_gives = { λ p n. n ≡ p.0 };
+
+    fn from(pid: Pid) -> usize {
+        pid.0 as usize
     }
 }

@@ -1,5 +1,0 @@
-use Rattle.control.proofs.Laws.{control-laws}
-use Rattle.control.proofs.AdaptationControl.has_adaptation_field.Goals as goal
-
-pub returns : goal.returns
-returns c = search control-laws
