@@ -7,54 +7,21 @@ use mathlib.Core.List.{List, [], ◌∷◌}
 use Prim.Native.Nat.{ℕ, ◌+◌, ◌-◌, ◌*◌, ◌%◌, ◌≤◌, ◌<◌}
 use native.Mathlib.Omega.{arith}
 use lib.ListN.{length, get_or, take, drop}
-use borrow.Author.Tests.{lt-ltb, le-ltb, le-leb, lt-leb, eq-eqb, ne_eqb, ltb-false}
+use borrow.Author.Tests.{lt-ltb, le-ltb, eq-eqb, ne_eqb, ltb-false}
 use borrow.Author.Rules.{rules}
-use types.Run.{OneOf, miss}
-use denote.Enum.Declared.{tag_of}
+use Rattle.std.specs.Int.{w16, from_be_bytes}
 use Rattle.bits.specs.Answer.{Answer, answer, truth, unless, Within, part_of}
 use Rattle.bits.specs.Field.{field}
+use Rattle.bits.specs.Refused.{refused}
+use Rattle.bits.specs.declared.refusal.Refusal.{Refusal}
 use Rattle.bits.proofs.Checks.{none-holds, passed, refused_by}
-use Rattle.bits.proofs.Fields.{in_byte, field-split, byte-field, Known}
+use Rattle.bits.proofs.Fields.{in_byte, field-split, field_below, byte-field, Known}
 use Rattle.bits.proofs.Parts.{part_in, part-done, part_none}
-use Rattle.bits.proofs.Ranges.{agree, Without, beside, past, under}
+use Rattle.bits.proofs.Refusals.{refused_above}
+use Rattle.bits.proofs.Ranges.{agree}
 use Rattle.pes.specs.declared.StreamId.{StreamId}
-use Rattle.pes.specs.contracts.StreamId.{the_type}
-use Rattle.pes.specs.declared.StreamId.TheVariants.{ProgramStreamMap, PrivateStream1, PaddingStream, PrivateStream2, Audio, Video}
-use Rattle.pes.specs.declared.StreamId.TheVariants.{EcmStream, EmmStream, DsmCc, Iso13522Stream}
-use Rattle.pes.specs.declared.StreamId.TheVariants.{H2221TypeA, H2221TypeB, H2221TypeC, H2221TypeD, H2221TypeE, AncillaryStream}
-use Rattle.pes.specs.declared.StreamId.TheVariants.{SlPacketizedStream, FlexMuxStream, MetadataStream, ExtendedStreamId}
-use Rattle.pes.specs.declared.StreamId.TheVariants.{ReservedDataStream, ProgramStreamDirectory, Unknown}
 use Rattle.pes.specs.Stream.{given_id, kind_of, id_values, read_id, parsed_id}
-use Rattle.pes.specs.declared.HeadRead.{HeadRead}
-use Rattle.pes.specs.Head.{given_head, not_head, read_head, read_stream_id, read_length, read_contents_part, contents_part, id_of, packet_length}
-
--- ---- the numbers of an id, over the ranges; at a single id the definition computes
-
-module _ (n : ℕ) where
-  pub id-at : (k : ℕ) (vs : List ℕ) → n ≡ k → vs ≡ id_values k → answer 0 vs ≡ read_id n
-  id-at k vs e f = ap (answer 0) (f ∙ ap id_values (sym e))
-
-  pub unknown : n < 0xBC → answer 0 (0 ∷ n ∷ []) ≡ read_id n
-  unfolding id_values
-  unknown h = simp (le-leb n 0xBB (omega arith))
-
-  pub audio : (0xC0 ≤ n) × (n < 0xE0) → answer 0 (0xC0 ∷ n % 32 ∷ []) ≡ read_id n
-  unfolding id_values
-  audio h = simp (lt-leb n 0xBB (omega arith), lt-leb n 0xBF (omega arith), le-leb n 0xDF (omega arith))
-
-  pub video : (0xE0 ≤ n) × (n < 0xF0) → answer 0 (0xE0 ∷ n % 32 ∷ []) ≡ read_id n
-  unfolding id_values
-  video h = simp (lt-leb n 0xBB (omega arith), lt-leb n 0xBF (omega arith), lt-leb n 0xDF (omega arith), le-leb n 0xEF (omega arith))
-
-  -- what the ids that are matched one by one leave of the two ranges
-  abbrev Left : Type 0
-  Left = Without (Without (Unit {0}) 0xBC 4 n) 0xF0 16 n
-
-  pub audio_left : Left → 0xBC ≤ n → n < 0xE0 → answer 0 (0xC0 ∷ n % 32 ∷ []) ≡ read_id n
-  audio_left w l h = audio (omega (arith, past _ 0xBC 4 n (beside _ 0xF0 16 n w) l))
-
-  pub video-left : Left → 0xE0 ≤ n → n < 256 → answer 0 (0xE0 ∷ n % 32 ∷ []) ≡ read_id n
-  video-left w l h = video (l, under _ 0xF0 16 n w h)
+use Rattle.pes.specs.Head.{not_head, read_head, read_stream_id, read_length, read_contents_part, contents_part, id_of, packet_length}
 
 -- ---- an id carries parsed contents just where what it stands for does
 
@@ -86,15 +53,9 @@ module _ (xs : List ℕ) where
     unfolding not_head
     bad_start l h = simp (le-ltb (length xs) 6 l, ne_eqb (field xs 0 24) 1 h)
 
-    module _ (k : Known xs) (l : 6 ≤ length xs) where
-      pub bad-first : (get_or xs 0 0 ≡ 0 → ⊥) → answer 4 [] ≡ unless (not_head xs) a
-      bad-first h = bad_start l (omega (arith, prefix-is xs, k 0))
-
-      pub bad_second : (get_or xs 1 0 ≡ 0 → ⊥) → answer 4 [] ≡ unless (not_head xs) a
-      bad_second h = bad_start l (omega (arith, prefix-is xs, k 1))
-
-      pub bad_third : (get_or xs 2 0 ≡ 1 → ⊥) → answer 4 [] ≡ unless (not_head xs) a
-      bad_third h = bad_start l (omega (arith, prefix-is xs, k 2))
+    pub bad-prefix : Known xs → 6 ≤ length xs → ((get_or xs 0 0 ≡ 0) × (get_or xs 1 0 ≡ 0) × (get_or xs 2 0 ≡ 1) → ⊥)
+        → answer 4 [] ≡ unless (not_head xs) a
+    bad-prefix k l h = bad_start l (λ e. h (omega (arith, prefix-is xs, k 0, k 1, k 2)))
 
     -- the other way: where the answer is no refusal, the bytes begin with a head
     pub headed-done : (unless (not_head xs) a).number ≡ 0 → Headed xs
@@ -119,97 +80,59 @@ contents-known xs k p n f =
 pub contents-within : (xs : List ℕ) → Within (contents_part xs) xs
 contents-within xs z = let h = headed-done xs (answer 0 (6 ∷ (length xs - 6) ∷ [])) z in rw h.is (omega (arith, h.long))
 
--- ---- what is read, by what `from_bytes` answered: a refusal is every reader's
+-- ---- what is read, by what `from_bytes` or `stream_id` answered: a refusal is every reader's
 
-module _ (xs : List ℕ) (r : HeadRead) (g : given_head r ≡ read_head xs) where
-  module _ (a : Answer) where
-    refused : (s : HeadRead) → r ≡ s → 0 < (given_head s).number → given_head s ≡ unless (not_head xs) a
-    refused s e h = refused_by (not_head xs) (answer 0 []) refl (given_head s) h (ap given_head (sym e) ∙ g) a
+module _ (xs : List ℕ) (r : Refusal) where
+  pub refused_too : (b : Answer) → b.number ≡ 0 → refused r ≡ unless (not_head xs) b → (a : Answer) → refused r ≡ unless (not_head xs) a
+  refused_too b z e = refused_by (not_head xs) b z (refused r) (refused_above r) e
 
-    pub refused_short : r ≡ HeadRead.ShortHeader → answer 3 [] ≡ unless (not_head xs) a
-    refused_short e = refused _ e (omega arith)
+  pub none_there : refused r ≡ read_head xs → [] ≡ part_of (contents_part xs) xs
+  none_there e = part_none (refused r) _ xs (refused_above r) (refused_too (answer 0 []) refl e _)
 
-    pub refused_start : r ≡ HeadRead.BadStartCode → answer 4 [] ≡ unless (not_head xs) a
-    refused_start e = refused _ e (omega arith)
+module _ (xs : List ℕ) (e : answer 0 [] ≡ read_head xs) where
+  accepted : Headed xs
+  accepted = headed-done xs (answer 0 []) (ap (λ (x : Answer). x.number) (sym e))
 
-  pub none-short : r ≡ HeadRead.ShortHeader → [] ≡ part_of (contents_part xs) xs
-  none-short e = part_none _ _ _ (omega arith) (refused_short _ e)
+  pub six_there : 6 ≤ length xs
+  six_there = accepted.long
 
-  pub none-start : r ≡ HeadRead.BadStartCode → [] ≡ part_of (contents_part xs) xs
-  none-start e = part_none _ _ _ (omega arith) (refused_start _ e)
+  pub id-done : (vs : List ℕ) → Known xs → answer 0 vs ≡ read_id (get_or xs 3 0) → answer 0 vs ≡ read_stream_id xs
+  unfolding id_of
+  id-done vs k f = f ∙ sym (accepted.is _ ∙ ap read_id (byte-field xs 3 (k 3).fits))
 
-  module _ (e : r ≡ HeadRead.Done) where
-    accepted : Headed xs
-    accepted = headed-done xs (answer 0 []) (ap (λ (x : Answer). x.number) (sym g ∙ ap given_head e))
+  module _ (n : ℕ) (f : n ≡ from_be_bytes w16 (get_or xs 4 0 ∷ get_or xs 5 0 ∷ [])) (k : Known xs) where
+    length-is : packet_length xs ≡ n
+    unfolding packet_length
+    length-is = omega (arith, field-split xs 32 8 8, in_byte xs 4 0 8 0 refl, in_byte xs 5 0 8 0 refl, k 4, k 5)
 
-    pub six_there : 6 ≤ length xs
-    six_there = accepted.long
+    pub unbounded : n ≡ 0 → answer 0 (0 ∷ []) ≡ read_length xs
+    unbounded z = sym (accepted.is _ ∙ simp (eq-eqb (packet_length xs) 0 (length-is ∙ z)))
 
-    pub byte_there : (i : ℕ) → i < 6 → i < length xs
-    byte_there i h = omega (arith, accepted.long)
+    pub bounded : (n ≡ 0 → ⊥) → answer 0 (1 ∷ n ∷ []) ≡ read_length xs
+    bounded h = sym (accepted.is _ ∙ simp (length-is, ne_eqb n 0 h))
 
-    pub id-done : (vs : List ℕ) → Known xs → answer 0 vs ≡ read_id (get_or xs 3 0) → answer 0 vs ≡ read_stream_id xs
-    unfolding id_of
-    id-done vs k f = f ∙ sym (accepted.is _ ∙ ap read_id (byte-field xs 3 (k 3).fits))
+  pub part-rests : take (length xs - 6) (drop 6 xs) ≡ part_of (contents_part xs) xs
+  part-rests = part_in _ _ _ (omega (arith, accepted.long)) ∙ part-done _ _ _ _ (sym (accepted.is _)) (contents-within xs)
 
-    module _ (u v : ℕ) (i : (u ≡ get_or xs 4 0) × (u < 256)) (j : (v ≡ get_or xs 5 0) × (v < 256)) where
-      length-is : packet_length xs ≡ u * 256 + v
-      unfolding packet_length
-      length-is = omega (arith, field-split xs 32 8 8, in_byte xs 4 0 8 0 refl, in_byte xs 5 0 8 0 refl)
+module _ (xs : List ℕ) (s : StreamId) (e : given_id s ≡ read_stream_id xs) where
+  named : Headed xs
+  named = headed-done xs (read_id (id_of xs)) (ap (λ (x : Answer). x.number) (sym e))
 
-      pub unbounded : u * 256 + v ≡ 0 → answer 0 (0 ∷ []) ≡ read_length xs
-      unbounded z = sym (accepted.is _ ∙ simp (eq-eqb (packet_length xs) 0 (length-is ∙ z)))
+  pub six_left : 6 ≤ length xs
+  six_left = named.long
 
-      pub bounded : (u * 256 + v ≡ 0 → ⊥) → answer 0 (1 ∷ (u * 256 + v) ∷ []) ≡ read_length xs
-      bounded h = sym (accepted.is _ ∙ simp (length-is, ne_eqb (u * 256 + v) 0 h))
+  kind-is : parsed_id (kind_of s) ≡ parsed_id (id_of xs)
+  unfolding id_of
+  kind-is = parsed-agrees (id_of xs) s (field_below xs 24 8) (e ∙ named.is _)
 
-    contents-are : (t : Bool) → Known xs → t ≡ parsed_id (get_or xs 3 0) → answer 0 (truth t ∷ 6 ∷ (length xs - 6) ∷ []) ≡ read_contents_part xs
-    unfolding id_of
-    contents-are t k f = sym (accepted.is _ ∙ rw (byte-field xs 3 (k 3).fits, f))
+  module _ (t : Bool) (h : t ≡ parsed_id (kind_of s)) where
+    contents-are : answer 0 (truth t ∷ 6 ∷ (length xs - 6) ∷ []) ≡ read_contents_part xs
+    contents-are = sym (named.is _ ∙ rw (h, kind-is))
 
-    module _ (k : Known xs) (s : StreamId) (t : Bool) (f : given_id s ≡ read_id (get_or xs 3 0)) (h : t ≡ parsed_id (kind_of s)) where
-      pub contents-parsed : t ≡ true → answer 0 (1 ∷ 6 ∷ (length xs - 6) ∷ []) ≡ read_contents_part xs
-      contents-parsed q = contents-are true k (sym q ∙ (h ∙ parsed-agrees _ s (k 3).fits f))
+    pub contents-parsed : t ≡ true → answer 0 (1 ∷ 6 ∷ (length xs - 6) ∷ []) ≡ read_contents_part xs
+    contents-parsed q = rw q at contents-are
 
-      pub contents-bare : t ≡ false → answer 0 (0 ∷ 6 ∷ (length xs - 6) ∷ []) ≡ read_contents_part xs
-      contents-bare q = contents-are false k (sym q ∙ (h ∙ parsed-agrees _ s (k 3).fits f))
+    pub contents-bare : t ≡ false → answer 0 (0 ∷ 6 ∷ (length xs - 6) ∷ []) ≡ read_contents_part xs
+    contents-bare q = rw q at contents-are
 
-    pub part-rests : take (length xs - 6) (drop 6 xs) ≡ part_of (contents_part xs) xs
-    part-rests = part_in _ _ _ (omega (arith, accepted.long)) ∙ part-done _ _ _ _ (sym (accepted.is _)) (contents-within xs)
-
--- ---- the default of `is_parsed`: what is none of the eight
-
--- their places among the variants
-abbrev others : List ℕ
-others = 1 ∷ 4 ∷ 5 ∷ 9 ∷ 10 ∷ 11 ∷ 12 ∷ 13 ∷ 15 ∷ 16 ∷ 17 ∷ 18 ∷ 19 ∷ 20 ∷ 22 ∷ []
-
-pub parsed : (s : StreamId) → OneOf others (tag_of the_type s) → true ≡ parsed_id (kind_of s)
-unfolding parsed_id
-parsed ProgramStreamMap k = absurd (miss others 0 tt k)
-parsed PrivateStream1 k = refl
-parsed PaddingStream k = absurd (miss others 2 tt k)
-parsed PrivateStream2 k = absurd (miss others 3 tt k)
-parsed (Audio n) k = refl
-parsed (Video n) k = refl
-parsed EcmStream k = absurd (miss others 6 tt k)
-parsed EmmStream k = absurd (miss others 7 tt k)
-parsed DsmCc k = absurd (miss others 8 tt k)
-parsed Iso13522Stream k = refl
-parsed H2221TypeA k = refl
-parsed H2221TypeB k = refl
-parsed H2221TypeC k = refl
-parsed H2221TypeD k = refl
-parsed H2221TypeE k = absurd (miss others 14 tt k)
-parsed AncillaryStream k = refl
-parsed SlPacketizedStream k = refl
-parsed FlexMuxStream k = refl
-parsed MetadataStream k = refl
-parsed ExtendedStreamId k = refl
-parsed ReservedDataStream k = refl
-parsed ProgramStreamDirectory k = absurd (miss others 21 tt k)
-parsed (Unknown n) k = refl
-
-pub id-told : (s k : StreamId) (t : Bool) → s ≡ k → t ≡ parsed_id (kind_of k) → t ≡ parsed_id (kind_of s)
-id-told s k t e f = f ∙ ap (λ (i : StreamId). parsed_id (kind_of i)) (sym e)
-
-pub ruleset pes_laws = (id-at, unknown, audio_left, video-left, short, bad-first, bad_second, bad_third, head_done, refused_short, refused_start, none-short, none-start, six_there, byte_there, id-done, unbounded, bounded, contents-parsed, contents-bare, part-rests, parsed, id-told, rules)
+pub ruleset pes_laws = (short, bad-prefix, head_done, refused_too, six_there, unbounded, bounded, part-rests, six_left, rules)

@@ -2,43 +2,35 @@
 -- Laws.antt (`parsed-agrees`, `contents-within`).
 -- Assumes nothing.
 use mathlib.Core.Path.{◌≡◌, refl}
+use mathlib.Core.List.{List}
 use Prim.Native.Nat.{ℕ}
 use lib.ListN.{get_or}
 use lib.Dec.{eqb}
+use Rattle.std.specs.Prelude.{Result}
 use Rattle.bits.specs.Answer.{Answer, pick}
 use Rattle.bits.proofs.Tests.{one_answer}
+use Rattle.bits.proofs.Refusals.{given_one}
+use Rattle.bits.specs.Refused.{given, no_values}
+use Rattle.bits.specs.declared.Extent.{Extent}
+use Rattle.bits.specs.declared.refusal.Refusal.{Refusal}
 use Rattle.pes.specs.declared.StreamId.{StreamId}
 use Rattle.pes.specs.declared.StreamId.TheVariants.{ProgramStreamMap, PrivateStream1, PaddingStream, PrivateStream2, Audio, Video}
 use Rattle.pes.specs.declared.StreamId.TheVariants.{EcmStream, EmmStream, DsmCc, Iso13522Stream}
 use Rattle.pes.specs.declared.StreamId.TheVariants.{H2221TypeA, H2221TypeB, H2221TypeC, H2221TypeD, H2221TypeE, AncillaryStream}
 use Rattle.pes.specs.declared.StreamId.TheVariants.{SlPacketizedStream, FlexMuxStream, MetadataStream, ExtendedStreamId}
 use Rattle.pes.specs.declared.StreamId.TheVariants.{ReservedDataStream, ProgramStreamDirectory, Unknown}
-use Rattle.pes.specs.declared.HeadRead.{HeadRead}
-use Rattle.pes.specs.declared.StreamIdRead.{StreamIdRead}
-use Rattle.pes.specs.declared.LengthRead.{LengthRead}
-use Rattle.pes.specs.declared.ContentsRead.{ContentsRead}
+use Rattle.pes.specs.declared.PesLength.{PesLength}
+use Rattle.pes.specs.declared.PesContents.{PesContents}
 use Rattle.pes.specs.Stream.{stream_values, given_id, read_id}
-use Rattle.pes.specs.Head.{given_head, given_stream_id, given_length, given_contents}
+use Rattle.pes.specs.Head.{length_values, contents_values}
 
 -- ---- one answer only: any two answers that meet a reader's promise are equal
 
-abbrev by_number : {A : Type 0} → Answer → A → A → A → A
-by_number s a b c = pick (eqb s.number 0) a (pick (eqb s.number 3) b c)
+abbrev value : List ℕ → ℕ → ℕ
+value vs i = get_or vs i 0
 
-abbrev value : Answer → ℕ → ℕ
-value s i = get_or s.values i 0
-
-head_back : Answer → HeadRead
-head_back s = by_number s HeadRead.Done HeadRead.ShortHeader HeadRead.BadStartCode
-
-head_back-given : (r : HeadRead) → head_back (given_head r) ≡ r
-unfolding head_back
-head_back-given HeadRead.Done = refl
-head_back-given HeadRead.ShortHeader = refl
-head_back-given HeadRead.BadStartCode = refl
-
-pub one-head : (s : Answer) (a b : HeadRead) → given_head a ≡ s → given_head b ≡ s → a ≡ b
-one-head = one_answer given_head head_back head_back-given
+pub one-head : (s : Answer) (a b : Result Unit Refusal) → given no_values a ≡ s → given no_values b ≡ s → a ≡ b
+one-head = given_one no_values (λ vs. tt) (λ u. refl)
 
 -- what an id stands for, got back from its kind and what is kept beside it
 id_back : ℕ → ℕ → StreamId
@@ -93,45 +85,35 @@ id_back-values ReservedDataStream = refl
 id_back-values ProgramStreamDirectory = refl
 id_back-values (Unknown n) = refl
 
+abbrev id_from : List ℕ → StreamId
+id_from vs = id_back (value vs 0) (value vs 1)
+
 pub one-id : (n : ℕ) (a b : StreamId) → given_id a ≡ read_id n → given_id b ≡ read_id n → a ≡ b
-one-id n = one_answer given_id (λ s. id_back (value s 0) (value s 1)) id_back-values (read_id n)
+one-id n = one_answer given_id (λ s. id_from s.values) id_back-values (read_id n)
 
-stream_id_back : Answer → StreamIdRead
-stream_id_back s = by_number s (StreamIdRead.Done (id_back (value s 0) (value s 1))) StreamIdRead.ShortHeader StreamIdRead.BadStartCode
+pub one-stream-id : (s : Answer) (a b : Result StreamId Refusal) → given stream_values a ≡ s → given stream_values b ≡ s → a ≡ b
+one-stream-id = given_one stream_values id_from id_back-values
 
-stream_id_back-given : (r : StreamIdRead) → stream_id_back (given_stream_id r) ≡ r
-unfolding stream_id_back
-stream_id_back-given (StreamIdRead.Done i) = rw (id_back-values i)
-stream_id_back-given StreamIdRead.ShortHeader = refl
-stream_id_back-given StreamIdRead.BadStartCode = refl
+length_back : List ℕ → PesLength
+length_back vs = pick (eqb (value vs 0) 0) PesLength.Unbounded (PesLength.Bounded (value vs 1))
 
-pub one-stream-id : (s : Answer) (a b : StreamIdRead) → given_stream_id a ≡ s → given_stream_id b ≡ s → a ≡ b
-one-stream-id = one_answer given_stream_id stream_id_back stream_id_back-given
-
-length_back : Answer → LengthRead
-length_back s = by_number s (pick (eqb (value s 0) 0) LengthRead.Unbounded (LengthRead.Bounded (value s 1))) LengthRead.ShortHeader LengthRead.BadStartCode
-
-length_back-given : (r : LengthRead) → length_back (given_length r) ≡ r
+length_back-values : (l : PesLength) → length_back (length_values l) ≡ l
 unfolding length_back
-length_back-given LengthRead.Unbounded = refl
-length_back-given (LengthRead.Bounded n) = refl
-length_back-given LengthRead.ShortHeader = refl
-length_back-given LengthRead.BadStartCode = refl
+length_back-values PesLength.Unbounded = refl
+length_back-values (PesLength.Bounded n) = refl
 
-pub one-length : (s : Answer) (a b : LengthRead) → given_length a ≡ s → given_length b ≡ s → a ≡ b
-one-length = one_answer given_length length_back length_back-given
+pub one-length : (s : Answer) (a b : Result PesLength Refusal) → given length_values a ≡ s → given length_values b ≡ s → a ≡ b
+one-length = given_one length_values length_back length_back-values
 
-contents_back : Answer → ContentsRead
-contents_back s =
-    by_number s (pick (eqb (value s 0) 0) (ContentsRead.Payload (value s 1) (value s 2)) (ContentsRead.Parsed (value s 1) (value s 2)))
-    ContentsRead.ShortHeader ContentsRead.BadStartCode
+contents_back : List ℕ → PesContents
+contents_back vs =
+    let e : Extent = record { place = value vs 1; length = value vs 2 } in
+    pick (eqb (value vs 0) 0) (PesContents.Payload e) (PesContents.Parsed e)
 
-contents_back-given : (r : ContentsRead) → contents_back (given_contents r) ≡ r
+contents_back-values : (p : PesContents) → contents_back (contents_values p) ≡ p
 unfolding contents_back
-contents_back-given (ContentsRead.Payload p n) = refl
-contents_back-given (ContentsRead.Parsed p n) = refl
-contents_back-given ContentsRead.ShortHeader = refl
-contents_back-given ContentsRead.BadStartCode = refl
+contents_back-values (PesContents.Payload e) = refl
+contents_back-values (PesContents.Parsed e) = refl
 
-pub one-contents : (s : Answer) (a b : ContentsRead) → given_contents a ≡ s → given_contents b ≡ s → a ≡ b
-one-contents = one_answer given_contents contents_back contents_back-given
+pub one-contents : (s : Answer) (a b : Result PesContents Refusal) → given contents_values a ≡ s → given contents_values b ≡ s → a ≡ b
+one-contents = given_one contents_values contents_back contents_back-values

@@ -3,37 +3,22 @@ use Rattle.std.specs.Prelude.{List, [], ◌∷◌, ℕ, ◌-◌, length, eqb, lt
 use Rattle.bits.specs.Answer.{Answer, answer, pick, truth, Check, ◌gives◌, unless, other}
 use Rattle.bits.specs.Field.{field}
 use Rattle.bits.specs.Numbers.{done, short_header, bad_start_code}
-use Rattle.pes.specs.Stream.{given_id, read_id, parsed_id}
-use Rattle.pes.specs.declared.HeadRead.{HeadRead}
-use Rattle.pes.specs.declared.StreamIdRead.{StreamIdRead}
-use Rattle.pes.specs.declared.LengthRead.{LengthRead}
-use Rattle.pes.specs.declared.ContentsRead.{ContentsRead}
+use Rattle.bits.specs.Refused.{extent_values}
+use Rattle.pes.specs.Stream.{read_id, parsed_id}
+use Rattle.pes.specs.declared.PesLength.{PesLength}
+use Rattle.pes.specs.declared.PesContents.{PesContents}
 
--- ---- the numbers of the answers
-
-abbrev pub given_head : HeadRead → Answer
-given_head HeadRead.Done = answer done []
-given_head HeadRead.ShortHeader = answer short_header []
-given_head HeadRead.BadStartCode = answer bad_start_code []
-
-abbrev pub given_stream_id : StreamIdRead → Answer
-given_stream_id (StreamIdRead.Done s) = given_id s
-given_stream_id StreamIdRead.ShortHeader = answer short_header []
-given_stream_id StreamIdRead.BadStartCode = answer bad_start_code []
+-- ---- the values of what is read
 
 -- unbounded is kind 0, bounded kind 1 with the length
-abbrev pub given_length : LengthRead → Answer
-given_length LengthRead.Unbounded = answer done (0 ∷ [])
-given_length (LengthRead.Bounded n) = answer done (1 ∷ n ∷ [])
-given_length LengthRead.ShortHeader = answer short_header []
-given_length LengthRead.BadStartCode = answer bad_start_code []
+abbrev pub length_values : PesLength → List ℕ
+length_values PesLength.Unbounded = 0 ∷ []
+length_values (PesLength.Bounded n) = 1 ∷ n ∷ []
 
 -- bare payload is kind 0, parsed contents kind 1, each with place and length
-abbrev pub given_contents : ContentsRead → Answer
-given_contents (ContentsRead.Payload p n) = answer done (0 ∷ p ∷ n ∷ [])
-given_contents (ContentsRead.Parsed p n) = answer done (1 ∷ p ∷ n ∷ [])
-given_contents ContentsRead.ShortHeader = answer short_header []
-given_contents ContentsRead.BadStartCode = answer bad_start_code []
+abbrev pub contents_values : PesContents → List ℕ
+contents_values (PesContents.Payload e) = 0 ∷ extent_values e
+contents_values (PesContents.Parsed e) = 1 ∷ extent_values e
 
 -- ---- what is read
 

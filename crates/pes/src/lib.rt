@@ -1,16 +1,16 @@
 // The head of a PES packet (`PesHeader` and `StreamId` of the original's pes.rs), read off a slice that begins with it.
-#![tactic(auto)]
+#![tactic(auto, using(crate::proofs::Laws::pes_laws))]
 
 ghost use Rattle.std.specs.Prelude.{◌≡◌};
 ghost use Rattle.bits.specs.Answer.{part_of};
-ghost use Rattle.pes.specs.Stream.{given_id, kind_of, read_id, parsed_id};
-ghost use Rattle.pes.specs.Head.{given_head, given_stream_id, given_length, given_contents, read_head, read_stream_id, read_length};
-ghost use Rattle.pes.specs.Head.{read_contents_part, contents_part};
+ghost use Rattle.bits.specs.Refused.{given, no_values};
+ghost use Rattle.pes.specs.Stream.{stream_values, given_id, kind_of, read_id, parsed_id};
+ghost use Rattle.pes.specs.Head.{length_values, contents_values, read_head, read_stream_id, read_length, read_contents_part, contents_part};
 
-use bits::wide;
+use bits::{Extent, Refusal};
 
 // What a stream id stands for.
-#[derive(Clone, Copy)]
+#[derive(Clone, Copy, Debug, PartialEq, Eq)]
 pub enum StreamId {
     ProgramStreamMap,
     PrivateStream1,
@@ -38,6 +38,7 @@ pub enum StreamId {
 }
 
 impl StreamId {
+    #[tactic(auto, unfolding(crate::specs::Stream::id_values))]
     pub fn from_id(id: u8) -> StreamId
         ensures { given_id result ≡ read_id id }
     {
@@ -69,117 +70,83 @@ impl StreamId {
     }
 
     // Whether parsed contents follow the head; after eight ids it is bare payload.
+    #[tactic(auto, unfolding(crate::specs::Stream::parsed_id))]
     pub fn is_parsed(self) -> bool
         ensures { result ≡ parsed_id (kind_of self) }
     {
         match self {
-            StreamId::ProgramStreamMap => false,
-            StreamId::PaddingStream => false,
-            StreamId::PrivateStream2 => false,
-            StreamId::EcmStream => false,
-            StreamId::EmmStream => false,
-            StreamId::ProgramStreamDirectory => false,
-            StreamId::DsmCc => false,
-            StreamId::H2221TypeE => false,
+            StreamId::ProgramStreamMap
+            | StreamId::PaddingStream
+            | StreamId::PrivateStream2
+            | StreamId::EcmStream
+            | StreamId::EmmStream
+            | StreamId::ProgramStreamDirectory
+            | StreamId::DsmCc
+            | StreamId::H2221TypeE => false,
             _ => true,
         }
     }
 }
 
-#[derive(Clone, Copy)]
-pub enum HeadRead {
-    Done,
-    ShortHeader,
-    BadStartCode,
-}
-
-#[derive(Clone, Copy)]
-pub enum StreamIdRead {
-    Done(StreamId),
-    ShortHeader,
-    BadStartCode,
-}
-
 // The length of the packet after its head; an unbounded one goes on to the next start.
-#[derive(Clone, Copy)]
-pub enum LengthRead {
+#[derive(Clone, Copy, Debug, PartialEq, Eq)]
+pub enum PesLength {
     Unbounded,
     Bounded(u16),
-    ShortHeader,
-    BadStartCode,
 }
 
 // What follows the head, and where it lies.
-#[derive(Clone, Copy)]
-pub enum ContentsRead {
-    Payload { place: usize, length: usize },
-    Parsed { place: usize, length: usize },
-    ShortHeader,
-    BadStartCode,
+#[derive(Clone, Copy, Debug, PartialEq, Eq)]
+pub enum PesContents {
+    Payload(Extent),
+    Parsed(Extent),
 }
 
 const FIXED_HEADER_SIZE: usize = 6;
 
 // Whether the slice begins with a head.
-pub fn from_bytes(buf: &[u8]) -> HeadRead
-    ensures { given_head result ≡ read_head buf.now }
+pub fn from_bytes(buf: &[u8]) -> Result<(), Refusal>
+    ensures { given no_values result ≡ read_head buf.now }
 {
     if buf.len() < FIXED_HEADER_SIZE {
-        return HeadRead::ShortHeader;
+        return Err(Refusal::ShortHeader);
     }
-    if buf[0] != 0 {
-        return HeadRead::BadStartCode;
+    if buf[0] != 0 || buf[1] != 0 || buf[2] != 1 {
+        return Err(Refusal::BadStartCode);
     }
-    if buf[1] != 0 {
-        return HeadRead::BadStartCode;
-    }
-    if buf[2] != 1 {
-        return HeadRead::BadStartCode;
-    }
-    HeadRead::Done
+    Ok(())
 }
 
-pub fn stream_id(buf: &[u8]) -> StreamIdRead
-    ensures { given_stream_id result ≡ read_stream_id buf.now }
+pub fn stream_id(buf: &[u8]) -> Result<StreamId, Refusal>
+    ensures { given stream_values result ≡ read_stream_id buf.now }
 {
-    match from_bytes(buf) {
-        HeadRead::ShortHeader => StreamIdRead::ShortHeader,
-        HeadRead::BadStartCode => StreamIdRead::BadStartCode,
-        HeadRead::Done => StreamIdRead::Done(StreamId::from_id(buf[3])),
-    }
+    from_bytes(buf)?;
+    Ok(StreamId::from_id(buf[3]))
 }
 
-pub fn pes_packet_length(buf: &[u8]) -> LengthRead
-    ensures { given_length result ≡ read_length buf.now }
+pub fn pes_packet_length(buf: &[u8]) -> Result<PesLength, Refusal>
+    ensures { given length_values result ≡ read_length buf.now }
 {
-    match from_bytes(buf) {
-        HeadRead::ShortHeader => LengthRead::ShortHeader,
-        HeadRead::BadStartCode => LengthRead::BadStartCode,
-        HeadRead::Done => {
-            let length = wide(buf[4]) * 256 + wide(buf[5]);
-            if length == 0 {
-                return LengthRead::Unbounded;
-            }
-            LengthRead::Bounded(length as u16)
-        }
+    from_bytes(buf)?;
+    match u16::from_be_bytes([buf[4], buf[5]]) {
+        0 => Ok(PesLength::Unbounded),
+        length => Ok(PesLength::Bounded(length)),
     }
 }
 
 // The kind of what follows the head, and where it lies.
-pub fn contents(buf: &[u8]) -> ContentsRead
-    ensures { given_contents result ≡ read_contents_part buf.now }
+pub fn contents(buf: &[u8]) -> Result<PesContents, Refusal>
+    ensures { given contents_values result ≡ read_contents_part buf.now }
 {
-    match from_bytes(buf) {
-        HeadRead::ShortHeader => ContentsRead::ShortHeader,
-        HeadRead::BadStartCode => ContentsRead::BadStartCode,
-        HeadRead::Done => {
-            let place = FIXED_HEADER_SIZE;
-            let length = buf.len() - place;
-            if StreamId::from_id(buf[3]).is_parsed() {
-                return ContentsRead::Parsed { place, length };
-            }
-            ContentsRead::Payload { place, length }
-        }
+    let id = stream_id(buf)?;
+    let rest = Extent {
+        place: FIXED_HEADER_SIZE,
+        length: buf.len() - FIXED_HEADER_SIZE,
+    };
+    if id.is_parsed() {
+        Ok(PesContents::Parsed(rest))
+    } else {
+        Ok(PesContents::Payload(rest))
     }
 }
 
@@ -188,8 +155,7 @@ pub fn contents_part(buf: &[u8]) -> &[u8]
     ensures { result.now ≡ part_of (contents_part buf.now) buf.now }
 {
     match from_bytes(buf) {
-        HeadRead::ShortHeader => &buf[0..0],
-        HeadRead::BadStartCode => &buf[0..0],
-        HeadRead::Done => &buf[6..],
+        Ok(()) => &buf[FIXED_HEADER_SIZE..],
+        Err(_) => &[],
     }
 }

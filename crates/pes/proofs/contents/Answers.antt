@@ -1,38 +1,8 @@
-use Rattle.pes.proofs.Laws.{pes_laws}
+use Rattle.pes.proofs.Laws.{contents-parsed, contents-bare}
 use Rattle.pes.proofs.contents.Goals as goal
 
-pub from_bytes-requires : goal.from_bytes-requires
-from_bytes-requires c = search pes_laws
-
-pub enum_told-1 : goal.enum_told-1
-enum_told-1 c = search pes_laws
-
-pub enum_told-in-BadStartCode : goal.enum_told-in-BadStartCode
-enum_told-in-BadStartCode c = search pes_laws
-
-pub enum_told-in-Done : goal.enum_told-in-Done
-enum_told-in-Done c = search pes_laws
-
-pub overflow_sub-length : goal.overflow_sub-length
-overflow_sub-length c = search pes_laws
-
-pub bounds-buf-3 : goal.bounds-buf-3
-bounds-buf-3 c = search pes_laws
-
-pub from_id-requires : goal.from_id-requires
-from_id-requires c = search pes_laws
-
-pub is_parsed-requires : goal.is_parsed-requires
-is_parsed-requires c = search pes_laws
-
 pub returns-then-is_parsed : goal.returns-then-is_parsed
-returns-then-is_parsed c = search pes_laws
-
-pub returns-in-ShortHeader : goal.returns-in-ShortHeader
-returns-in-ShortHeader c = search pes_laws
-
-pub returns-in-BadStartCode : goal.returns-in-BadStartCode
-returns-in-BadStartCode c = search pes_laws
+returns-then-is_parsed c = contents-parsed _ _ c.in_ok-id.ensures _ c.is_parsed.ensures c.if-is_parsed.true
 
 pub returns-else-is_parsed : goal.returns-else-is_parsed
-returns-else-is_parsed c = search pes_laws
+returns-else-is_parsed c = contents-bare _ _ c.in_ok-id.ensures _ c.is_parsed.ensures c.if-is_parsed.false
