@@ -5,37 +5,7 @@ use Rattle.std.specs.Prelude.{not, List, [], ◌∷◌, ℕ, ◌+◌, ◌*◌, l
 use Rattle.bits.specs.Answer.{Answer, answer, pick, truth, Check, ◌gives◌, unless}
 use Rattle.bits.specs.Field.{bit, flag}
 use Rattle.bits.specs.Numbers.{done, wrong_length, field_not_present, not_enough_data}
-use Rattle.control.specs.Clock.{clock_base, clock_extension, clock_values}
-use Rattle.adaptation.specs.declared.FlagRead.{FlagRead}
-use Rattle.adaptation.specs.declared.ClockRead.{ClockRead}
-use Rattle.adaptation.specs.declared.ByteRead.{ByteRead}
-use Rattle.adaptation.specs.declared.PartRead.{PartRead}
-
--- ---- the numbers of the answers
-
-abbrev pub given_flag : FlagRead → Answer
-given_flag (FlagRead.Done b) = answer done (truth b ∷ [])
-given_flag FlagRead.WrongLength = answer wrong_length []
-
-abbrev pub given_clock : ClockRead → Answer
-given_clock (ClockRead.Done c) = answer done (clock_values c)
-given_clock ClockRead.WrongLength = answer wrong_length []
-given_clock ClockRead.FieldNotPresent = answer field_not_present []
-given_clock ClockRead.NotEnoughData = answer not_enough_data []
-
-abbrev pub given_byte : ByteRead → Answer
-given_byte (ByteRead.Done n) = answer done (n ∷ [])
-given_byte ByteRead.WrongLength = answer wrong_length []
-given_byte ByteRead.FieldNotPresent = answer field_not_present []
-given_byte ByteRead.NotEnoughData = answer not_enough_data []
-
-abbrev pub given_part : PartRead → Answer
-given_part (PartRead.Done p n) = answer done (p ∷ n ∷ [])
-given_part PartRead.WrongLength = answer wrong_length []
-given_part PartRead.FieldNotPresent = answer field_not_present []
-given_part PartRead.NotEnoughData = answer not_enough_data []
-
--- ---- what is read
+use Rattle.control.specs.Clock.{clock_base, clock_extension}
 
 -- an adaptation field of no bytes
 unfoldable pub no_flags : List ℕ → List Check

@@ -1,36 +1,24 @@
 -- The adaptation field extension, without its length byte (clause 2.4.3.4, the same table): a byte of flags, and then, each there
 -- where its flag is set, one after another:
 --   ltw_valid_flag 1 and ltw_offset 15; 2 reserved and piecewise_rate 22; Splice_type 4 and DTS_next_AU 33 with three markers.
-use Rattle.std.specs.Prelude.{List, [], ◌∷◌, ℕ, ◌+◌, ◌*◌, drop, eqb}
+use Rattle.std.specs.Prelude.{List, [], ◌∷◌, ℕ, ◌+◌, ◌*◌, drop, eqb, Option, Some, None}
 use Rattle.bits.specs.Answer.{Answer, answer, pick, unless}
 use Rattle.bits.specs.Field.{bit, field, flag}
-use Rattle.bits.specs.Numbers.{done, field_not_present, not_enough_data, marker_bit_not_set}
+use Rattle.bits.specs.Numbers.{done, not_enough_data}
 use Rattle.timestamp.specs.Stamp.{read_stamp}
 use Rattle.adaptation.specs.Adaptation.{not_field}
-use Rattle.adaptation.specs.declared.extension.LtwRead.{LtwRead}
-use Rattle.adaptation.specs.declared.extension.RateRead.{RateRead}
-use Rattle.adaptation.specs.declared.extension.SpliceRead.{SpliceRead}
+use Rattle.adaptation.specs.declared.extension.SeamlessSplice.{SeamlessSplice}
 
--- ---- the numbers of the answers
+-- ---- the values of the answers
 
 -- a time window that is flagged but not valid is kind 0; a valid one kind 1, with its offset
-abbrev pub given_ltw : LtwRead → Answer
-given_ltw (LtwRead.Valid n) = answer done (1 ∷ n ∷ [])
-given_ltw LtwRead.NotValid = answer done (0 ∷ [])
-given_ltw LtwRead.FieldNotPresent = answer field_not_present []
-given_ltw LtwRead.NotEnoughData = answer not_enough_data []
-
-abbrev pub given_rate : RateRead → Answer
-given_rate (RateRead.Done n) = answer done (n ∷ [])
-given_rate RateRead.FieldNotPresent = answer field_not_present []
-given_rate RateRead.NotEnoughData = answer not_enough_data []
+abbrev pub ltw_values : Option ℕ → List ℕ
+ltw_values None = 0 ∷ []
+ltw_values (Some n) = 1 ∷ n ∷ []
 
 -- a splice: its type and its time
-abbrev pub given_splice : SpliceRead → Answer
-given_splice (SpliceRead.Done s) = answer done (s.splice_type ∷ s.dts_next_au.val ∷ [])
-given_splice SpliceRead.FieldNotPresent = answer field_not_present []
-given_splice SpliceRead.NotEnoughData = answer not_enough_data []
-given_splice (SpliceRead.MarkerBitNotSet b) = answer marker_bit_not_set (b ∷ [])
+abbrev pub splice_values : SeamlessSplice → List ℕ
+splice_values s = s.splice_type ∷ s.dts_next_au.val ∷ []
 
 -- ---- what is read
 

@@ -1,253 +1,192 @@
 // The adaptation field of a packet (`AdaptationField` of the original's packet.rs), read off the field's bytes, without the length
 // byte before them. The extension's readers are in the module extension.
-#![tactic(auto)]
+#![tactic(auto, using(crate::proofs::Laws::adaptation_laws))]
 
-ghost use Rattle.std.specs.Prelude.{◌≡◌, ◌+◌, ◌≤◌, ◌<◌, length};
+ghost use Rattle.std.specs.Prelude.{◌≡◌, ◌+◌, ◌≤◌, ◌<◌, length, get_or, MatchResult};
 ghost use Rattle.bits.specs.Answer.{part_of};
-ghost use Rattle.adaptation.specs.Adaptation.{given_flag, given_clock, given_byte, given_part, read_flag, read_pcr, read_opcr};
-ghost use Rattle.adaptation.specs.Adaptation.{read_splice_countdown};
-ghost use Rattle.adaptation.specs.Adaptation.{read_private_data, read_extension, opcr_at, splice_at, private_at, extension_at, clock_at};
+ghost use Rattle.bits.specs.Refused.{given, number_values, flag_values, extent_values};
+ghost use Rattle.bits.specs.declared.refusal.Refusal.TheVariants.{NotEnoughData};
+ghost use Rattle.control.specs.Clock.{clock_values};
+ghost use Rattle.adaptation.specs.Adaptation.{read_flag, read_pcr, read_opcr, read_splice_countdown, read_private_data, read_extension};
+ghost use Rattle.adaptation.specs.Adaptation.{opcr_at, splice_at, private_at, extension_at, measured_end};
 
-use bits::{part, wide};
+use bits::{Extent, Refusal};
 use control::ClockRef;
+use field::Field;
 
 pub mod extension;
+mod field;
 
-#[derive(Clone, Copy)]
-pub enum FlagRead {
-    Done(bool),
-    WrongLength,
-}
+// The flags, by their bit.
+const DISCONTINUITY: u32 = 0;
 
-#[derive(Clone, Copy)]
-pub enum ClockRead {
-    Done(ClockRef),
-    WrongLength,
-    FieldNotPresent,
-    NotEnoughData,
-}
+const RANDOM_ACCESS: u32 = 1;
 
-#[derive(Clone, Copy)]
-pub enum ByteRead {
-    Done(u8),
-    WrongLength,
-    FieldNotPresent,
-    NotEnoughData,
-}
+const ELEMENTARY_STREAM_PRIORITY: u32 = 2;
 
-// Where a part of the field lies.
-#[derive(Clone, Copy)]
-pub enum PartRead {
-    Done { place: usize, length: usize },
-    WrongLength,
-    FieldNotPresent,
-    NotEnoughData,
-}
+const PCR: u32 = 3;
+
+const OPCR: u32 = 4;
+
+const SPLICING_POINT: u32 = 5;
+
+const TRANSPORT_PRIVATE_DATA: u32 = 6;
+
+const ADAPTATION_FIELD_EXTENSION: u32 = 7;
 
 const PCR_SIZE: usize = 6;
 
-pub fn discontinuity_indicator(buf: &[u8]) -> FlagRead
-    ensures { given_flag result ≡ read_flag 0 buf.now }
+pub fn discontinuity_indicator(buf: &[u8]) -> Result<bool, Refusal>
+    ensures { given flag_values result ≡ read_flag 0 buf.now }
 {
-    if buf.len() == 0 {
-        return FlagRead::WrongLength;
-    }
-    FlagRead::Done(buf[0] / 128 % 2 == 1)
+    Ok(Field::new(buf, Refusal::WrongLength)?.flag(DISCONTINUITY))
 }
 
-pub fn random_access_indicator(buf: &[u8]) -> FlagRead
-    ensures { given_flag result ≡ read_flag 1 buf.now }
+pub fn random_access_indicator(buf: &[u8]) -> Result<bool, Refusal>
+    ensures { given flag_values result ≡ read_flag 1 buf.now }
 {
-    if buf.len() == 0 {
-        return FlagRead::WrongLength;
-    }
-    FlagRead::Done(buf[0] / 64 % 2 == 1)
+    Ok(Field::new(buf, Refusal::WrongLength)?.flag(RANDOM_ACCESS))
 }
 
-pub fn elementary_stream_priority_indicator(buf: &[u8]) -> FlagRead
-    ensures { given_flag result ≡ read_flag 2 buf.now }
+pub fn elementary_stream_priority_indicator(buf: &[u8]) -> Result<bool, Refusal>
+    ensures { given flag_values result ≡ read_flag 2 buf.now }
 {
-    if buf.len() == 0 {
-        return FlagRead::WrongLength;
-    }
-    FlagRead::Done(buf[0] / 32 % 2 == 1)
+    Ok(Field::new(buf, Refusal::WrongLength)?.flag(ELEMENTARY_STREAM_PRIORITY))
 }
 
 // The program clock reference.
-pub fn pcr(buf: &[u8]) -> ClockRead
-    ensures { given_clock result ≡ read_pcr buf.now }
+pub fn pcr(buf: &[u8]) -> Result<ClockRef, Refusal>
+    ensures { given clock_values result ≡ read_pcr buf.now }
 {
-    if buf.len() == 0 {
-        return ClockRead::WrongLength;
+    let field = Field::new(buf, Refusal::WrongLength)?;
+    if !field.flag(PCR) {
+        return Err(Refusal::FieldNotPresent);
     }
-    if buf[0] / 16 % 2 == 0 {
-        return ClockRead::FieldNotPresent;
-    }
-    if buf.len() < 1 + PCR_SIZE {
-        return ClockRead::NotEnoughData;
-    }
-    clock_at(buf, 1)
+    ClockRef::from_slice(field.bytes_at(1, PCR_SIZE)?)
 }
 
-// The clock reference at a place.
-fn clock_at(buf: &[u8], at: usize) -> ClockRead
-    requires { at + 6 ≤ length buf.now }
-    ensures { given_clock result ≡ clock_at buf.now at }
+fn opcr_offset(field: Field) -> usize
+    ensures { result ≡ opcr_at field.entry.buf.now }
 {
-    match ClockRef::from_slice(&buf[at..]) {
-        control::ClockRead::Done(c) => ClockRead::Done(c),
-        control::ClockRead::WrongLength => ClockRead::NotEnoughData,
-    }
-}
-
-fn opcr_offset(buf: &[u8]) -> usize
-    requires { 0 < length buf.now }
-    ensures { (result ≡ opcr_at buf.now) × (result ≤ 7) }
-{
-    if buf[0] / 16 % 2 == 0 {
-        return 1;
-    }
-    1 + PCR_SIZE
+    if field.flag(PCR) { 1 + PCR_SIZE } else { 1 }
 }
 
 // The original program clock reference.
-pub fn opcr(buf: &[u8]) -> ClockRead
-    ensures { given_clock result ≡ read_opcr buf.now }
+pub fn opcr(buf: &[u8]) -> Result<ClockRef, Refusal>
+    ensures { given clock_values result ≡ read_opcr buf.now }
 {
-    if buf.len() == 0 {
-        return ClockRead::WrongLength;
+    let field = Field::new(buf, Refusal::WrongLength)?;
+    if !field.flag(OPCR) {
+        return Err(Refusal::FieldNotPresent);
     }
-    if buf[0] / 8 % 2 == 0 {
-        return ClockRead::FieldNotPresent;
-    }
-    let off = opcr_offset(buf);
-    if buf.len() < off + PCR_SIZE {
-        return ClockRead::NotEnoughData;
-    }
-    clock_at(buf, off)
+    let off = opcr_offset(field);
+    ClockRef::from_slice(field.bytes_at(off, PCR_SIZE)?)
 }
 
-fn splice_countdown_offset(buf: &[u8]) -> usize
-    requires { 0 < length buf.now }
-    ensures { (result ≡ splice_at buf.now) × (result ≤ 13) }
+fn splice_countdown_offset(field: Field) -> usize
+    ensures { result ≡ splice_at field.entry.buf.now }
 {
-    let off = opcr_offset(buf);
-    if buf[0] / 8 % 2 == 0 {
-        return off;
+    let off = opcr_offset(field);
+    if field.flag(OPCR) {
+        off + PCR_SIZE
+    } else {
+        off
     }
-    off + PCR_SIZE
 }
 
 // The packets left to a splicing point.
-pub fn splice_countdown(buf: &[u8]) -> ByteRead
-    ensures { given_byte result ≡ read_splice_countdown buf.now }
+pub fn splice_countdown(buf: &[u8]) -> Result<u8, Refusal>
+    ensures { given number_values result ≡ read_splice_countdown buf.now }
 {
-    if buf.len() == 0 {
-        return ByteRead::WrongLength;
+    let field = Field::new(buf, Refusal::WrongLength)?;
+    if !field.flag(SPLICING_POINT) {
+        return Err(Refusal::FieldNotPresent);
     }
-    if buf[0] / 4 % 2 == 0 {
-        return ByteRead::FieldNotPresent;
-    }
-    let off = splice_countdown_offset(buf);
-    if buf.len() <= off {
-        return ByteRead::NotEnoughData;
-    }
-    ByteRead::Done(buf[off])
+    let off = splice_countdown_offset(field);
+    Ok(field.bytes_at(off, 1)?[0])
 }
 
-fn transport_private_data_offset(buf: &[u8]) -> usize
-    requires { 0 < length buf.now }
-    ensures { (result ≡ private_at buf.now) × (result ≤ 14) }
+fn transport_private_data_offset(field: Field) -> usize
+    ensures { result ≡ private_at field.entry.buf.now }
 {
-    let off = splice_countdown_offset(buf);
-    if buf[0] / 4 % 2 == 0 {
-        return off;
+    let off = splice_countdown_offset(field);
+    if field.flag(SPLICING_POINT) {
+        off + 1
+    } else {
+        off
     }
-    off + 1
+}
+
+// The bytes after a length byte at a place.
+fn measured(field: Field, off: usize) -> Result<Extent, Refusal>
+    ensures { let xs = field.entry.buf.now in
+        MatchResult result (λ e. (e.place ≡ off + 1) × (e.length ≡ get_or xs off 0) × (measured_end xs off ≤ length xs))
+        (λ r. (r ≡ NotEnoughData) × (length xs < measured_end xs off)) }
+{
+    let length = field.bytes_at(off, 1)?[0] as usize;
+    field.bytes_at(off + 1, length)?;
+    Ok(Extent {
+        place: off + 1,
+        length,
+    })
 }
 
 // Where the private data lies, without its length byte.
-pub fn transport_private_data_at(buf: &[u8]) -> PartRead
-    ensures { given_part result ≡ read_private_data buf.now }
+pub fn transport_private_data_at(buf: &[u8]) -> Result<Extent, Refusal>
+    ensures { given extent_values result ≡ read_private_data buf.now }
 {
-    if buf.len() == 0 {
-        return PartRead::WrongLength;
+    let field = Field::new(buf, Refusal::WrongLength)?;
+    if !field.flag(TRANSPORT_PRIVATE_DATA) {
+        return Err(Refusal::FieldNotPresent);
     }
-    if buf[0] / 2 % 2 == 0 {
-        return PartRead::FieldNotPresent;
-    }
-    let off = transport_private_data_offset(buf);
-    if buf.len() <= off {
-        return PartRead::NotEnoughData;
-    }
-    let length = wide(buf[off]) as usize;
-    if buf.len() < off + 1 + length {
-        return PartRead::NotEnoughData;
-    }
-    PartRead::Done {
-        place: off + 1,
-        length,
-    }
+    measured(field, transport_private_data_offset(field))
 }
 
 // The private data, without its length byte.
 pub fn transport_private_data(buf: &[u8]) -> &[u8]
     ensures { result.now ≡ part_of (read_private_data buf.now) buf.now }
 {
-    let PartRead::Done { place, length } = transport_private_data_at(buf) else {
+    let Ok(extent) = transport_private_data_at(buf) else {
         return &buf[0..0];
     };
-    part(buf, place, length)
+    extent.of(buf)
 }
 
 // Where the private data's length byte is missing, this lies past the end too.
-fn adaptation_field_extension_offset(buf: &[u8]) -> usize
-    requires { 0 < length buf.now }
-    ensures { (result ≡ extension_at buf.now) × (result ≤ 270) }
+fn adaptation_field_extension_offset(field: Field) -> usize
+    ensures { result ≡ extension_at field.entry.buf.now }
 {
-    let off = transport_private_data_offset(buf);
-    if buf[0] / 2 % 2 == 0 {
+    let off = transport_private_data_offset(field);
+    if !field.flag(TRANSPORT_PRIVATE_DATA) {
         return off;
     }
-    if buf.len() <= off {
+    if field.buf.len() <= off {
         return off + 1;
     }
-    off + 1 + wide(buf[off]) as usize
+    off + 1 + field.buf[off] as usize
 }
 
 // Where the extension lies, without its length byte.
-pub fn adaptation_field_extension_at(buf: &[u8]) -> PartRead
-    ensures { given_part result ≡ read_extension buf.now }
+pub fn adaptation_field_extension_at(buf: &[u8]) -> Result<Extent, Refusal>
+    ensures { given extent_values result ≡ read_extension buf.now }
 {
-    if buf.len() == 0 {
-        return PartRead::WrongLength;
+    let field = Field::new(buf, Refusal::WrongLength)?;
+    if !field.flag(ADAPTATION_FIELD_EXTENSION) {
+        return Err(Refusal::FieldNotPresent);
     }
-    if buf[0] % 2 == 0 {
-        return PartRead::FieldNotPresent;
+    let extent = measured(field, adaptation_field_extension_offset(field))?;
+    if extent.length == 0 {
+        return Err(Refusal::NotEnoughData);
     }
-    let off = adaptation_field_extension_offset(buf);
-    if buf.len() <= off {
-        return PartRead::NotEnoughData;
-    }
-    let length = wide(buf[off]) as usize;
-    if buf.len() < off + 1 + length {
-        return PartRead::NotEnoughData;
-    }
-    if length == 0 {
-        return PartRead::NotEnoughData;
-    }
-    PartRead::Done {
-        place: off + 1,
-        length,
-    }
+    Ok(extent)
 }
 
 // The extension, without its length byte.
 pub fn adaptation_field_extension(buf: &[u8]) -> &[u8]
     ensures { result.now ≡ part_of (read_extension buf.now) buf.now }
 {
-    let PartRead::Done { place, length } = adaptation_field_extension_at(buf) else {
+    let Ok(extent) = adaptation_field_extension_at(buf) else {
         return &buf[0..0];
     };
-    part(buf, place, length)
+    extent.of(buf)
 }
