@@ -2,25 +2,26 @@
 -- and callers' cite them. A premise is a test of the code, or a promise of what it calls.
 -- Assumes nothing.
 use mathlib.Core.Path.{◌≡◌, refl, sym, ap, ◌∙◌}
-use mathlib.Core.Bool.{Bool, true, false, not}
+use mathlib.Core.Bool.{Bool, true, false}
 use mathlib.Core.List.{List, [], ◌∷◌, ◌++◌}
 use Prim.Native.Nat.{ℕ, ◌+◌, ◌-◌, ◌/◌, ◌%◌, ◌≤◌, ◌<◌}
 use native.Mathlib.Omega.{arith}
 use lib.ListN.{length, get_or}
 use lib.Dec.{eqb, leb, ltb}
-use borrow.Author.Tests.{lt-ltb, le-ltb, le-leb, lt-leb, eq-eqb, ne_eqb, ltb-true, leb-true, eqb-true, not-true, not-false}
-use borrow.Author.Rules.{rules}
+use borrow.Author.Tests.{lt-ltb, le-ltb, le-leb, lt-leb, eq-eqb, ne_eqb, ltb-true, leb-true, eqb-true}
+use Rattle.std.specs.Prelude.{Result}
 use Rattle.bits.specs.Answer.{Answer, answer, pick, truth, Check, unless, first_of, other, Within, part_at, part_of}
-use Rattle.bits.specs.Field.{bit}
+use Rattle.bits.specs.Field.{bit, flag}
+use Rattle.bits.specs.Refused.{refused, given, no_values}
+use Rattle.bits.specs.declared.refusal.Refusal.{Refusal}
 use Rattle.bits.proofs.Bools.{false_true, both}
-use Rattle.bits.proofs.Checks.{Off, none-holds, unless-within, first_of-first, first_of-past, ne-other, eq-other, other-false}
-use Rattle.bits.proofs.Fields.{bit_of, in_byte, field-split, field_below, byte-field, Known, byte_wide}
-use Rattle.bits.proofs.Parts.{part-refused, part-done}
+use Rattle.bits.proofs.Checks.{Off, none-holds, passed, refused_by, unless-within, first_of-first, first_of-past, ne-other, eq-other, other-false}
+use Rattle.bits.proofs.Fields.{in_byte, field-split, field_below, byte-field, Known}
+use Rattle.bits.proofs.Parts.{part_none, part-done}
+use Rattle.bits.proofs.Refusals.{refused_above}
 use Rattle.control.specs.Control.{has_adaptation_field, has_payload, counter_of, pid_of}
-use Rattle.packet.specs.declared.PartRead.{PartRead}
-use Rattle.packet.specs.declared.Tried.{Tried}
-use Rattle.packet.specs.Packet.{given_tried, given_part, not_packet, pid_field, counter_field, adaptation_flag, payload_flag, adaptation_length}
-use Rattle.packet.specs.Packet.{start_bit, start_flag, start_of, after_field, adaptation_there, content_at, payload_there}
+use Rattle.packet.specs.Packet.{not_packet, pid_field, counter_field, adaptation_flag, payload_flag, adaptation_length}
+use Rattle.packet.specs.Packet.{error_bit, start_bit, priority_bit, start_flag, start_of, after_field, adaptation_there, content_at, payload_there}
 use Rattle.packet.proofs.Theorems.{control-payload, control-adaptation}
 use Rattle.packet.specs.Packet.{tried, read_flag, read_pid, read_byte_four, read_counter, read_adaptation, read_payload}
 
@@ -54,8 +55,8 @@ module _ (xs : List ℕ) (cs : List Check) where
     first-after s = first_of-past (not_packet xs) cs (packet_off xs l s)
 
   -- .. by the answer of `try_new`
-  pub tried-first : (t : Tried) → given_tried t ≡ tried xs
-      → pick (eqb (given_tried t).number 0) (first_of cs) (given_tried t).number ≡ first_of (not_packet xs ++ cs)
+  pub tried-first : (t : Result Unit Refusal) → given no_values t ≡ tried xs
+      → pick (eqb (given no_values t).number 0) (first_of cs) (given no_values t).number ≡ first_of (not_packet xs ++ cs)
   unfolding not_packet
   tried-first t e = go (other (length xs) 188) (other (get_or xs 0 0) 0x47) _ (ap (λ (a : Answer). a.number) e)
     where
@@ -64,6 +65,42 @@ module _ (xs : List ℕ) (cs : List Check) where
       go true b n h = rw h
       go false true n h = rw h
       go false false n h = rw h
+
+-- ---- what is read, by what `try_new` or another reader answered: a refusal is every reader's
+
+pub refused_too : (xs : List ℕ) (r : Refusal) (b : Answer) → b.number ≡ 0 → refused r ≡ unless (not_packet xs) b
+    → (a : Answer) → refused r ≡ unless (not_packet xs) a
+refused_too xs r b z e = refused_by (not_packet xs) b z (refused r) (refused_above r) e
+
+-- what is known where a reader accepts
+pub record Packet (xs : List ℕ) : Type 0 where
+  pub long : length xs ≡ 188
+  pub is : (a : Answer) → unless (not_packet xs) a ≡ a
+
+packet-done : (xs : List ℕ) (a : Answer) → (unless (not_packet xs) a).number ≡ 0 → Packet xs
+unfolding not_packet
+packet-done xs a z =
+    let o = passed (not_packet xs) a (omega arith) z in
+    record { long = other-false (length xs) 188 o.0; is = none-holds (not_packet xs) o }
+
+-- where `try_new` does
+module _ (xs : List ℕ) (e : answer 0 [] ≡ tried xs) where
+  accepted : Packet xs
+  accepted = packet-done xs (answer 0 []) (ap (λ (a : Answer). a.number) (sym e))
+
+  pub long-tried : length xs ≡ 188
+  long-tried = accepted.long
+
+-- where `adaptation_control` does
+module _ (xs : List ℕ) (k : ℕ) (e : answer 0 (k ∷ []) ≡ read_byte_four xs) where
+  named : Packet xs
+  named = packet-done xs (answer 0 (get_or xs 3 0 ∷ [])) (ap (λ (a : Answer). a.number) (sym e))
+
+  pub long-four : length xs ≡ 188
+  long-four = named.long
+
+  fourth : k ≡ get_or xs 3 0
+  fourth = ap (λ (a : Answer). get_or a.values 0 0) (e ∙ named.is _)
 
 -- ---- the header's fields, from the bytes
 
@@ -97,25 +134,11 @@ module _ (xs : List ℕ) where
 
   -- the bits of the fourth byte, by what the crate control reads there
   module _ (k : ℕ) (b : Bool) (e : k ≡ get_or xs 3 0) where
-    module _ (f : b ≡ has_adaptation_field k) where
-      pub adaptation-is : b ≡ adaptation_flag xs
-      adaptation-is = f ∙ (ap has_adaptation_field e ∙ control-adaptation xs)
+    pub adaptation-is : b ≡ has_adaptation_field k → b ≡ adaptation_flag xs
+    adaptation-is f = f ∙ (ap has_adaptation_field e ∙ control-adaptation xs)
 
-      pub adaptation-set : not b ≡ false → adaptation_flag xs ≡ true
-      adaptation-set h = sym adaptation-is ∙ not-false b h
-
-      pub adaptation_clear : not b ≡ true → adaptation_flag xs ≡ false
-      adaptation_clear h = sym adaptation-is ∙ not-true b h
-
-    module _ (f : b ≡ has_payload k) where
-      pub payload-flag-is : b ≡ payload_flag xs
-      payload-flag-is = f ∙ (ap has_payload e ∙ control-payload xs)
-
-      pub payload-set : not b ≡ false → payload_flag xs ≡ true
-      payload-set h = sym payload-flag-is ∙ not-false b h
-
-      pub payload_clear : not b ≡ true → payload_flag xs ≡ false
-      payload_clear h = sym payload-flag-is ∙ not-true b h
+    pub payload-flag-is : b ≡ has_payload k → b ≡ payload_flag xs
+    payload-flag-is f = f ∙ (ap has_payload e ∙ control-payload xs)
 
   length-is : Known xs → adaptation_length xs ≡ get_or xs 4 0
   unfolding adaptation_length
@@ -140,89 +163,109 @@ pub start-bit : (b : ℕ) → eqb (b / 64 % 2) 1 ≡ start_of b
 unfolding start_of bit
 start-bit b = refl
 
+-- the flags of the second byte, PID and counter
+module _ (xs : List ℕ) where
+  pub error-bit : eqb (get_or xs 1 0 / 128 % 2) 1 ≡ flag xs error_bit
+  unfolding bit
+  error-bit = refl
+
+  pub priority-bit : eqb (get_or xs 1 0 / 32 % 2) 1 ≡ flag xs priority_bit
+  unfolding bit
+  priority-bit = refl
+
+  pub start-byte : (b : Bool) → b ≡ start_of (get_or xs 1 0) → b ≡ start_flag xs
+  start-byte b f = f ∙ start_is xs
+
+  pub pid-bytes : (n : ℕ) → n ≡ pid_of (get_or xs 1 0) (get_or xs 2 0) → n ≡ pid_field xs
+  pid-bytes n f = f ∙ pid-is xs
+
+  pub counter-byte : (n : ℕ) → n ≡ counter_of (get_or xs 3 0) → n ≡ counter_field xs
+  counter-byte n f = f ∙ counter-is xs
+
 -- ---- what is read of a packet
 
-module _ (xs : List ℕ) (l : length xs ≡ 188) (s : get_or xs 0 0 ≡ 0x47) where
-  pub packet-is : (a : Answer) → unless (not_packet xs) a ≡ a
-  packet-is a = none-holds (not_packet xs) (packet_off xs l s) a
+pub packet-is : (xs : List ℕ) → length xs ≡ 188 → get_or xs 0 0 ≡ 0x47 → (a : Answer) → unless (not_packet xs) a ≡ a
+packet-is xs l s a = none-holds (not_packet xs) (packet_off xs l s) a
 
-  pub tried-done : answer 0 [] ≡ tried xs
-  tried-done = sym (packet-is _)
+pub tried-done : (xs : List ℕ) → length xs ≡ 188 → get_or xs 0 0 ≡ 0x47 → answer 0 [] ≡ tried xs
+tried-done xs l s = sym (packet-is xs l s _)
 
+module _ (xs : List ℕ) (e : answer 0 [] ≡ tried xs) where
   value-done : (n m : ℕ) → n ≡ m → answer 0 (n ∷ []) ≡ unless (not_packet xs) (answer 0 (m ∷ []))
-  value-done n m e = ap (λ (v : ℕ). answer 0 (v ∷ [])) e ∙ sym (packet-is _)
+  value-done n m f = ap (λ (v : ℕ). answer 0 (v ∷ [])) f ∙ sym ((accepted xs e).is _)
 
-  pub flag-done : (n i : ℕ) → n ≡ truth (eqb (bit_of xs i) 1) → answer 0 (n ∷ []) ≡ read_flag i xs
-  unfolding bit
-  flag-done n i e = value-done n _ e
+  pub flag-done : (i : ℕ) (b : Bool) → b ≡ flag xs i → answer 0 (truth b ∷ []) ≡ read_flag i xs
+  flag-done i b f = value-done _ _ (ap truth f)
 
-  pub start-done : (b : Bool) → b ≡ start_of (get_or xs 1 0) → answer 0 (truth b ∷ []) ≡ read_flag start_bit xs
+  pub start-done : (b : Bool) → b ≡ start_flag xs → answer 0 (truth b ∷ []) ≡ read_flag start_bit xs
   unfolding start_flag
-  start-done b e = value-done _ _ (ap truth (e ∙ start_is xs))
+  start-done b f = value-done _ _ (ap truth f)
 
-  pub pid-done : (n : ℕ) → n ≡ pid_of (get_or xs 1 0) (get_or xs 2 0) → answer 0 (n ∷ []) ≡ read_pid xs
-  pid-done n e = value-done n _ (e ∙ pid-is xs)
+  pub pid-done : (n : ℕ) → n ≡ pid_field xs → answer 0 (n ∷ []) ≡ read_pid xs
+  pid-done n f = value-done n _ f
 
   pub four-done : (n : ℕ) → n ≡ get_or xs 3 0 → answer 0 (n ∷ []) ≡ read_byte_four xs
-  four-done n e = value-done n _ e
+  four-done n f = value-done n _ f
 
-  pub counter-done : (n : ℕ) → n ≡ counter_of (get_or xs 3 0) → answer 0 (n ∷ []) ≡ read_counter xs
-  counter-done n e = value-done n _ (e ∙ counter-is xs)
+  pub counter-done : (n : ℕ) → n ≡ counter_field xs → answer 0 (n ∷ []) ≡ read_counter xs
+  counter-done n f = value-done n _ f
 
-  -- where the test of the adaptation field or of the payload comes out so, that is the answer
-  field_is : (b : Bool) → Known xs → adaptation_there xs ≡ b → pick b (answer 0 (5 ∷ get_or xs 4 0 ∷ [])) (answer 9 []) ≡ read_adaptation xs
-  field_is b k e = sym (packet-is _ ∙ rw (e, length-is xs k))
+module _ (xs : List ℕ) (k : ℕ) (e : answer 0 (k ∷ []) ≡ read_byte_four xs) (a p : Bool) where
+  module _ (f : a ≡ has_adaptation_field k) where
+    there-is : a ≡ adaptation_flag xs
+    there-is = adaptation-is xs k a (fourth xs k e) f
 
-  payload-is : (b : Bool) (k : ℕ) → content_at xs ≡ k → payload_there xs ≡ b → pick b (answer 0 (k ∷ (188 - k) ∷ [])) (answer 9 []) ≡ read_payload xs
-  payload-is b k e f = sym (packet-is _ ∙ rw (f, e))
+    pub field_off : a ≡ false → answer 9 [] ≡ read_adaptation xs
+    unfolding adaptation_there
+    field_off h = sym ((named xs k e).is _ ∙ simp (sym there-is ∙ h))
 
-  pub field_off : Known xs → adaptation_flag xs ≡ false → answer 9 [] ≡ read_adaptation xs
-  unfolding adaptation_there
-  field_off k f = field_is false k (simp f)
+    -- the lengths that an adaptation field may have
+    module _ (h : a ≡ true) (g : p ≡ has_payload k) (b : Known xs) where
+      abbrev fits : Bool
+      fits = pick p (pick (leb 1 (get_or xs 4 0)) (leb (get_or xs 4 0) 182) false) (eqb (get_or xs 4 0) 183)
 
-  module _ (k : Known xs) (f : adaptation_flag xs ≡ true) where
-    module _ (p : payload_flag xs ≡ false) where
-      pub alone-other : (get_or xs 4 0 ≡ 183 → ⊥) → answer 9 [] ≡ read_adaptation xs
+      field-is : (t : Bool) → fits ≡ t → pick t (answer 0 (5 ∷ get_or xs 4 0 ∷ [])) (answer 9 []) ≡ read_adaptation xs
       unfolding adaptation_there
-      alone-other h = field_is false k (simp (f, p, length-is xs k, ne_eqb (get_or xs 4 0) 183 h))
+      field-is t q =
+          sym ((named xs k e).is _ ∙ simp (sym there-is ∙ h, sym (payload-flag-is xs k p (fourth xs k e) g), length-is xs b, q))
 
-      pub alone-whole : get_or xs 4 0 ≡ 183 → answer 0 (5 ∷ get_or xs 4 0 ∷ []) ≡ read_adaptation xs
-      unfolding adaptation_there
-      alone-whole h = field_is true k (simp (f, p, length-is xs k, eq-eqb (get_or xs 4 0) 183 h))
+      pub field_beside : p ≡ true → (1 ≤ get_or xs 4 0) × (get_or xs 4 0 ≤ 182) → answer 0 (5 ∷ get_or xs 4 0 ∷ []) ≡ read_adaptation xs
+      field_beside q l = field-is true (simp (q, le-leb 1 (get_or xs 4 0) l.0, le-leb (get_or xs 4 0) 182 l.1))
 
-    module _ (p : payload_flag xs ≡ true) where
-      pub beside_empty : get_or xs 4 0 ≡ 0 → answer 9 [] ≡ read_adaptation xs
-      unfolding adaptation_there
-      beside_empty h = field_is false k (simp (f, p, length-is xs k, lt-leb 1 (get_or xs 4 0) (omega arith)))
+      pub field_alone : p ≡ false → get_or xs 4 0 ≡ 183 → answer 0 (5 ∷ get_or xs 4 0 ∷ []) ≡ read_adaptation xs
+      field_alone q l = field-is true (simp (q, eq-eqb (get_or xs 4 0) 183 l))
 
-      pub beside_long : 182 < get_or xs 4 0 → answer 9 [] ≡ read_adaptation xs
-      unfolding adaptation_there
-      beside_long h = field_is false k (simp (f, p, length-is xs k, le-leb 1 (get_or xs 4 0) (omega arith), lt-leb (get_or xs 4 0) 182 h))
+      pub field_empty : p ≡ true → get_or xs 4 0 < 1 → answer 9 [] ≡ read_adaptation xs
+      field_empty q l = field-is false (simp (q, lt-leb 1 (get_or xs 4 0) l))
 
-      pub beside-given : (get_or xs 4 0 ≡ 0 → ⊥) → get_or xs 4 0 ≤ 182 → answer 0 (5 ∷ get_or xs 4 0 ∷ []) ≡ read_adaptation xs
-      unfolding adaptation_there
-      beside-given n h = field_is true k (simp (f, p, length-is xs k, le-leb 1 (get_or xs 4 0) (omega arith), le-leb (get_or xs 4 0) 182 h))
+      pub field_long : p ≡ true → 182 < get_or xs 4 0 → answer 9 [] ≡ read_adaptation xs
+      field_long q l = field-is false (simp (q, le-leb 1 (get_or xs 4 0) (omega arith), lt-leb (get_or xs 4 0) 182 l))
 
-  pub payload_off : payload_flag xs ≡ false → answer 9 [] ≡ read_payload xs
-  unfolding payload_there
-  payload_off p = payload-is false (content_at xs) refl (simp p)
+      pub field_other : p ≡ false → (get_or xs 4 0 ≡ 183 → ⊥) → answer 9 [] ≡ read_adaptation xs
+      field_other q l = field-is false (simp (q, ne_eqb (get_or xs 4 0) 183 l))
 
-  module _ (p : payload_flag xs ≡ true) where
-    pub payload_plain : adaptation_flag xs ≡ false → answer 0 (4 ∷ 184 ∷ []) ≡ read_payload xs
+  module _ (g : p ≡ has_payload k) where
+    pub payload_off : p ≡ false → answer 9 [] ≡ read_payload xs
     unfolding payload_there
-    payload_plain f = let e = content_plain xs f in payload-is true 4 e (simp (p, e))
+    payload_off h = sym ((named xs k e).is _ ∙ simp (sym (payload-flag-is xs k p (fourth xs k e) g) ∙ h))
 
-    module _ (k : Known xs) (f : adaptation_flag xs ≡ true) (a : ℕ) (i : a ≡ after_field (get_or xs 4 0)) where
-      starts : content_at xs ≡ a
-      starts = content-after xs k f ∙ sym i
-
-      pub payload_past : 188 ≤ a → answer 9 [] ≡ read_payload xs
+    module _ (h : p ≡ true) (n : ℕ) (q : content_at xs ≡ n) where
+      payload-is : (t : Bool) → ltb n 188 ≡ t → pick t (answer 0 (n ∷ (188 - n) ∷ [])) (answer 9 []) ≡ read_payload xs
       unfolding payload_there
-      payload_past h = payload-is false a starts (simp (p, starts, le-ltb a 188 h))
+      payload-is t r = sym ((named xs k e).is _ ∙ simp (sym (payload-flag-is xs k p (fourth xs k e) g) ∙ h, q, r))
 
-      pub payload-after : a < 188 → answer 0 (a ∷ (188 - a) ∷ []) ≡ read_payload xs
-      unfolding payload_there
-      payload-after h = payload-is true a starts (simp (p, starts, lt-ltb a 188 h))
+      pub payload_past : 188 ≤ n → answer 9 [] ≡ read_payload xs
+      payload_past r = payload-is false (le-ltb n 188 r)
+
+      pub payload_in : n < 188 → answer 0 (n ∷ (188 - n) ∷ []) ≡ read_payload xs
+      payload_in r = payload-is true (lt-ltb n 188 r)
+
+  module _ (f : a ≡ has_adaptation_field k) where
+    pub content_four : a ≡ false → content_at xs ≡ 4
+    content_four h = content_plain xs (sym (there-is f) ∙ h)
+
+    pub content_field : Known xs → a ≡ true → content_at xs ≡ after_field (get_or xs 4 0)
+    content_field b h = content-after xs b (sym (there-is f) ∙ h)
 
 -- ---- both parts lie within the packet
 
@@ -249,30 +292,24 @@ adaptation-within xs =
 payload-within : (xs : List ℕ) → Within (read_payload xs) xs
 payload-within xs = part-within xs (content_at xs) (188 - content_at xs) (payload_there xs) (λ h. omega (arith, payload_below xs h))
 
--- an answer that is not `Done` is a refusal
-not_done : (r : PartRead) → ((p n : ℕ) → r ≡ PartRead.Done p n → ⊥) → (given_part r).number ≡ 0 → ⊥
-not_done (PartRead.Done p n) k z = k p n refl
-not_done PartRead.WrongLength k z = omega arith
-not_done PartRead.NoSync k z = omega arith
-not_done PartRead.FieldNotPresent k z = omega arith
-
 -- the bytes of a part, by where it is said to lie
-module _ (xs ys : List ℕ) (r : PartRead) where
-  pub no_part : (a : Answer) → ((p n : ℕ) → r ≡ PartRead.Done p n → ⊥) → given_part r ≡ a → [] ≡ part_of a xs
-  no_part a k e = part-refused a xs (λ z. not_done r k (ap (λ (b : Answer). b.number) e ∙ z))
+module _ (xs : List ℕ) where
+  pub no_part : (r : Refusal) (a : Answer) → refused r ≡ a → [] ≡ part_of a xs
+  no_part r a e = part_none (refused r) a xs (refused_above r) e
 
-  module _ (p n : ℕ) (e : r ≡ PartRead.Done p n) (f : ys ≡ part_at p n xs) where
-    pub adaptation-part : given_part r ≡ read_adaptation xs → ys ≡ part_of (read_adaptation xs) xs
-    adaptation-part g = f ∙ part-done _ _ p n (ap given_part (sym e) ∙ g) (adaptation-within xs)
+  module _ (p n : ℕ) where
+    pub adaptation-part : answer 0 (p ∷ n ∷ []) ≡ read_adaptation xs → part_at p n xs ≡ part_of (read_adaptation xs) xs
+    adaptation-part e = part-done _ xs p n e (adaptation-within xs)
 
-    pub payload-part : given_part r ≡ read_payload xs → ys ≡ part_of (read_payload xs) xs
-    payload-part g = f ∙ part-done _ _ p n (ap given_part (sym e) ∙ g) (payload-within xs)
+    pub payload-part : answer 0 (p ∷ n ∷ []) ≡ read_payload xs → part_at p n xs ≡ part_of (read_payload xs) xs
+    payload-part e = part-done _ xs p n e (payload-within xs)
 
--- what the functions' proofs search: of the adaptation field and of the payload by sets of their own, in which less is tried
-pub ruleset packet_laws = (wrong-length, no-sync, tried-done, flag-done, start-bit, start-done, pid-done, four-done, counter-done, no_part, adaptation-part, payload-part, rules)
+-- of the readers of a packet that was made
+pub ruleset reader_laws = (refused_too, tried-done, flag-done, start-done, pid-done, four-done, counter-done)
 
-pub ruleset flag-laws = (wrong-length, no-sync, byte_wide, adaptation-set, adaptation_clear, payload-set, payload_clear, rules)
+-- of what is read of its bytes
+pub ruleset byte_laws = (wrong-length, no-sync, start-bit, error-bit, priority-bit, start-byte, pid-bytes, counter-byte)
 
-pub ruleset field_laws = (field_off, alone-other, beside_empty, beside_long, flag-laws)
+pub ruleset part_laws = (long-four, field_off, field_beside, field_alone, field_empty, field_long, field_other, payload_off, payload_past, payload_in)
 
-pub ruleset payload_laws = (payload_off, payload_plain, payload_past, payload-after, flag-laws)
+pub ruleset packet_laws = (reader_laws, byte_laws, part_laws, long-tried, content_four, content_field, adaptation-part, payload-part)

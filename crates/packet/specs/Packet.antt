@@ -6,51 +6,16 @@ use Rattle.std.specs.Prelude.{Bool, false, List, [], ◌∷◌, ℕ, ◌+◌, �
 use Rattle.bits.specs.Answer.{Answer, answer, pick, truth, Check, ◌gives◌, unless, other}
 use Rattle.bits.specs.Field.{field, flag}
 use Rattle.bits.specs.Numbers.{done, wrong_length, no_sync, field_not_present}
-use Rattle.packet.specs.declared.Tried.{Tried}
-use Rattle.packet.specs.declared.FlagRead.{FlagRead}
-use Rattle.packet.specs.declared.PidRead.{PidRead}
-use Rattle.packet.specs.declared.ScramblingRead.{ScramblingRead}
-use Rattle.packet.specs.declared.ControlRead.{ControlRead}
-use Rattle.packet.specs.declared.CounterRead.{CounterRead}
-use Rattle.packet.specs.declared.PartRead.{PartRead}
+use Rattle.control.specs.declared.AdaptationControl.{AdaptationControl}
+use Rattle.control.specs.declared.TransportScramblingControl.{TransportScramblingControl}
 
--- ---- the numbers of the answers
+-- ---- the values of what is read: the whole fourth byte
 
-abbrev pub given_tried : Tried → Answer
-given_tried Tried.Done = answer done []
-given_tried Tried.WrongLength = answer wrong_length []
-given_tried Tried.NoSync = answer no_sync []
+abbrev pub scrambling_values : TransportScramblingControl → List ℕ
+scrambling_values c = c.0 ∷ []
 
-abbrev pub given_flag : FlagRead → Answer
-given_flag (FlagRead.Done b) = answer done (truth b ∷ [])
-given_flag FlagRead.WrongLength = answer wrong_length []
-given_flag FlagRead.NoSync = answer no_sync []
-
-abbrev pub given_pid : PidRead → Answer
-given_pid (PidRead.Done p) = answer done (p.0 ∷ [])
-given_pid PidRead.WrongLength = answer wrong_length []
-given_pid PidRead.NoSync = answer no_sync []
-
-abbrev pub given_scrambling : ScramblingRead → Answer
-given_scrambling (ScramblingRead.Done c) = answer done (c.0 ∷ [])
-given_scrambling ScramblingRead.WrongLength = answer wrong_length []
-given_scrambling ScramblingRead.NoSync = answer no_sync []
-
-abbrev pub given_control : ControlRead → Answer
-given_control (ControlRead.Done c) = answer done (c.0 ∷ [])
-given_control ControlRead.WrongLength = answer wrong_length []
-given_control ControlRead.NoSync = answer no_sync []
-
-abbrev pub given_counter : CounterRead → Answer
-given_counter (CounterRead.Done c) = answer done (c.val ∷ [])
-given_counter CounterRead.WrongLength = answer wrong_length []
-given_counter CounterRead.NoSync = answer no_sync []
-
-abbrev pub given_part : PartRead → Answer
-given_part (PartRead.Done p n) = answer done (p ∷ n ∷ [])
-given_part PartRead.WrongLength = answer wrong_length []
-given_part PartRead.NoSync = answer no_sync []
-given_part PartRead.FieldNotPresent = answer field_not_present []
+abbrev pub control_values : AdaptationControl → List ℕ
+control_values c = c.0 ∷ []
 
 -- ---- what is read
 
