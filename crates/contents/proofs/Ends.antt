@@ -1,11 +1,10 @@
 -- Where the flagged fields stand, by the flags' byte alone: the rule of a table of field ends, and what its entries are.
 -- Assumes nothing.
-use mathlib.Core.Path.{◌≡◌, ◌∙◌, ap}
+use mathlib.Core.Path.{◌≡◌, refl, sym, ap}
 use mathlib.Core.Bool.{Bool, true, false}
 use mathlib.Core.List.{List}
-use Prim.Native.Nat.{ℕ, ◌+◌, ◌*◌, ◌/◌, ◌^◌, ◌≤◌, ◌<◌}
+use Prim.Native.Nat.{ℕ, ◌+◌, ◌*◌, ◌/◌, ◌≤◌, ◌<◌}
 use native.Mathlib.Omega.{arith}
-use borrow.Author.Rules.{rules}
 use lib.ListN.{get_or}
 use lib.Dec.{T, eqb, eqb→eq}
 use Rattle.bits.specs.Answer.{pick}
@@ -66,9 +65,6 @@ pub entry-is : (table : List ℕ) (f : ℕ) → FieldEnds table → f < 256 → 
 unfolding FieldEnds
 entry-is table f r h = r f h
 
-pub entry_small : (table : List ℕ) (f : ℕ) → FieldEnds table → f < 256 → get_or table f 0 < 2 ^ 64
-entry_small table f r h = omega (arith, entry-is table f r h, end_least (flag_byte f))
-
 -- ---- entries whose later flags are cleared
 
 -- with the flags below d cleared, the fields end at this place
@@ -78,29 +74,37 @@ ends place d f = eqb (fields_end (flag_byte (f / d * d))) (place (flag_byte f))
 cleared : (place : List ℕ → ℕ) (d : ℕ) → T (from (ends place d) 0 256) → (f : ℕ) → f < 256 → fields_end (flag_byte (f / d * d)) ≡ place (flag_byte f)
 cleared place d t f h = eqb→eq (fields_end (flag_byte (f / d * d))) (place (flag_byte f)) (at (ends place d) 0 256 t f (omega arith))
 
-module _ (c : List ℕ) (f : ℕ) (b : f ≡ get_or c 1 0) (h : f < 256) where
-  pub times-end : fields_end (flag_byte (f / 64 * 64)) ≡ escr_at c
+module _ (c : List ℕ) (h : get_or c 1 0 < 256) where
+  pub times-end : fields_end (flag_byte (get_or c 1 0 / 64 * 64)) ≡ escr_at c
   unfolding fields_end crc_at copy_info_at trick_at es_rate_at escr_at times_size bit
-  times-end = cleared escr_at 64 tt f h ∙ ap (λ (n : ℕ). escr_at (flag_byte n)) b
+  times-end = cleared escr_at 64 tt (get_or c 1 0) h
 
-  pub escr-end : fields_end (flag_byte (f / 32 * 32)) ≡ es_rate_at c
+  pub escr-end : fields_end (flag_byte (get_or c 1 0 / 32 * 32)) ≡ es_rate_at c
   unfolding fields_end crc_at copy_info_at trick_at es_rate_at escr_at times_size bit
-  escr-end = cleared es_rate_at 32 tt f h ∙ ap (λ (n : ℕ). es_rate_at (flag_byte n)) b
+  escr-end = cleared es_rate_at 32 tt (get_or c 1 0) h
 
-  pub rate-end : fields_end (flag_byte (f / 16 * 16)) ≡ trick_at c
+  pub rate-end : fields_end (flag_byte (get_or c 1 0 / 16 * 16)) ≡ trick_at c
   unfolding fields_end crc_at copy_info_at trick_at es_rate_at escr_at times_size bit
-  rate-end = cleared trick_at 16 tt f h ∙ ap (λ (n : ℕ). trick_at (flag_byte n)) b
+  rate-end = cleared trick_at 16 tt (get_or c 1 0) h
 
-  pub trick-end : fields_end (flag_byte (f / 8 * 8)) ≡ copy_info_at c
+  pub trick-end : fields_end (flag_byte (get_or c 1 0 / 8 * 8)) ≡ copy_info_at c
   unfolding fields_end crc_at copy_info_at trick_at es_rate_at escr_at times_size bit
-  trick-end = cleared copy_info_at 8 tt f h ∙ ap (λ (n : ℕ). copy_info_at (flag_byte n)) b
+  trick-end = cleared copy_info_at 8 tt (get_or c 1 0) h
 
-  pub copy-end : fields_end (flag_byte (f / 4 * 4)) ≡ crc_at c
+  pub copy-end : fields_end (flag_byte (get_or c 1 0 / 4 * 4)) ≡ crc_at c
   unfolding fields_end crc_at copy_info_at trick_at es_rate_at escr_at times_size bit
-  copy-end = cleared crc_at 4 tt f h ∙ ap (λ (n : ℕ). crc_at (flag_byte n)) b
+  copy-end = cleared crc_at 4 tt (get_or c 1 0) h
 
-pub crc-end : (c : List ℕ) (f : ℕ) → f ≡ get_or c 1 0 → fields_end (flag_byte f) ≡ fields_end c
-unfolding fields_end crc_at copy_info_at trick_at es_rate_at escr_at times_size bit
-crc-end c f b = ap (λ (n : ℕ). fields_end (flag_byte n)) b
+module _ (c : List ℕ) where
+  pub crc-end : fields_end (flag_byte (get_or c 1 0)) ≡ fields_end c
+  unfolding fields_end crc_at copy_info_at trick_at es_rate_at escr_at times_size bit
+  crc-end = refl
 
-pub ruleset end-entries = (entry-is, entry_small, rules)
+  -- the entries of a PTS alone, and of a PTS and a DTS
+  pub pts-end : get_or c 1 0 ≡ 0x80 → 8 ≡ fields_end c
+  unfolding fields_end crc_at copy_info_at trick_at es_rate_at escr_at times_size bit
+  pts-end b = ap (λ (n : ℕ). fields_end (flag_byte n)) (sym b)
+
+  pub dts-end : get_or c 1 0 ≡ 0xC0 → 13 ≡ fields_end c
+  unfolding fields_end crc_at copy_info_at trick_at es_rate_at escr_at times_size bit
+  dts-end b = ap (λ (n : ℕ). fields_end (flag_byte n)) (sym b)

@@ -6,200 +6,194 @@ use mathlib.Core.Path.{◌≡◌, refl, sym, ap, ap₂, ◌∙◌}
 use mathlib.Core.Bool.{Bool, true, false}
 use mathlib.Core.List.{List, [], ◌∷◌, ◌++◌}
 use mathlib.Core.Logic.{◌↔◌, ◌⊎◌, inl, inr}
-use Prim.Native.Nat.{ℕ, ◌^◌, ◌<◌}
+use Prim.Native.Nat.{ℕ, ◌+◌, ◌*◌, ◌^◌, ◌≤◌, ◌<◌}
 use native.Mathlib.Omega.{arith}
-use lib.ListN.{get_or, drop}
-use lib.Dec.{eqb, leb}
-use borrow.Author.Tests.{eqb-true}
+use lib.ListN.{length, get_or, drop, length-drop}
+use Rattle.std.specs.Prelude.{Result, Ok, Err}
+use lib.Dec.{eqb}
+use borrow.Author.Tests.{eqb-true, le-ltb}
 use Rattle.bits.specs.Answer.{Answer, answer, pick}
 use Rattle.bits.specs.Field.{bit, field, flag}
-use Rattle.bits.specs.Numbers.{done}
+use Rattle.bits.specs.Numbers.{done, marker_bit_not_set}
+use Rattle.bits.proofs.Checks.{passed}
 use Rattle.bits.proofs.Packs.{RowIn, RowFits, row-front}
-use Rattle.bits.proofs.Tests.{one_answer}
-use Rattle.contents.specs.declared.Refusal.{Refusal}
-use Rattle.contents.specs.declared.ContentsRead.{ContentsRead}
-use Rattle.contents.specs.declared.ByteRead.{ByteRead}
+use Rattle.bits.proofs.Refusals.{back_refusal, back_refusal-refused, refused-not_done, refused_above, given_one}
+use Rattle.bits.specs.Refused.{given, no_values, number_values, extent_values}
+use Rattle.bits.specs.declared.Extent.{Extent}
+use Rattle.bits.specs.declared.refusal.Refusal.{Refusal}
+use Rattle.bits.specs.declared.refusal.Refusal.TheVariants.{MarkerBitNotSet}
+use Rattle.timestamp.specs.declared.Timestamp.{Timestamp}
+use Rattle.timestamp.specs.Stamp.{timestamp_values, stamp_value, read_stamp}
+use Rattle.control.specs.declared.ClockRef.{ClockRef}
+use Rattle.control.specs.Clock.{clock_values}
 use Rattle.contents.specs.declared.DataAlignment.{DataAlignment}
-use Rattle.contents.specs.declared.AlignmentRead.{AlignmentRead}
 use Rattle.contents.specs.declared.CopyrightStatus.{CopyrightStatus}
-use Rattle.contents.specs.declared.CopyrightRead.{CopyrightRead}
 use Rattle.contents.specs.declared.OriginalOrCopy.{OriginalOrCopy}
-use Rattle.contents.specs.declared.OriginalRead.{OriginalRead}
-use Rattle.contents.specs.declared.StampRead.{StampRead}
 use Rattle.contents.specs.declared.PtsDts.{PtsDts}
-use Rattle.contents.specs.declared.EscrRead.{EscrRead}
-use Rattle.contents.specs.declared.EsRateMade.{EsRateMade}
-use Rattle.contents.specs.declared.EsRateNumber.{EsRateNumber}
-use Rattle.contents.specs.declared.EsRateRead.{EsRateRead}
+use Rattle.contents.specs.declared.EsRate.{EsRate}
 use Rattle.contents.specs.declared.FrequencyTruncationCoefficientSelection.{FrequencyTruncationCoefficientSelection}
 use Rattle.contents.specs.declared.DsmTrickMode.{DsmTrickMode}
-use Rattle.contents.specs.declared.TrickRead.{TrickRead}
-use Rattle.contents.specs.declared.FieldRead.{FieldRead}
-use Rattle.contents.specs.declared.CopyInfoRead.{CopyInfoRead}
-use Rattle.contents.specs.declared.CrcRead.{CrcRead}
-use Rattle.contents.specs.declared.PartRead.{PartRead}
-use Rattle.contents.specs.declared.PlacesRead.{PlacesRead}
 use Rattle.contents.specs.declared.ClockParts.{ClockParts}
-use Rattle.contents.specs.Given.{refusal, given_contents, given_byte, given_alignment, status_bit, standard_copyright, given_copyright}
-use Rattle.contents.specs.Given.{given_original, given_stamp, given_pts_dts, given_escr}
-use Rattle.contents.specs.Given.{given_rate_made, given_rate_number, given_es_rate, truncation, trick_values, given_trick, given_field}
-use Rattle.contents.specs.Given.{given_copy_info, given_crc, given_part, given_places}
+use Rattle.contents.specs.declared.fields.Places.{Places}
+use Rattle.contents.specs.Given.{alignment_values, status_bit, status_values, standard_copyright, originality_values, pts_dts_values, rate_values}
+use Rattle.contents.specs.Given.{truncation, trick_values, places_values}
 use Rattle.contents.specs.Contents.{escr_bit, es_rate_bit, trick_bit, copy_info_bit, crc_bit, escr_at, es_rate_at, trick_at, copy_info_at, crc_at}
-use Rattle.contents.specs.Contents.{flagged, read_contents, escr_base, escr_extension, escr_answer, read_escr, rate_of, read_es_rate}
+use Rattle.contents.specs.Contents.{times_size, not_contents, inner, flagged, read_contents, read_pts_dts}
+use Rattle.contents.specs.Contents.{escr_base, escr_extension, escr_answer, read_escr, rate_of, read_es_rate}
 use Rattle.contents.specs.Contents.{copy_info_of, read_copy_info, read_crc}
 use Rattle.contents.specs.Layout.{escr_table, escr_bytes, rate_table, es_rate_bytes, trick_table, trick_bytes, copy_table, copy_info_bytes}
 use Rattle.contents.specs.Layout.{crc_table, crc_bytes}
 use Rattle.contents.specs.Trick.{control, trick_of, standard_trick, read_raw_trick}
 use Rattle.bits.proofs.Fields.{truth-bit, field-one}
-use Rattle.contents.proofs.Laws.{accepted-by, field-on}
+use Rattle.contents.proofs.Laws.{Accepted, passes, accepted-by, field-on, times-fit}
 
 -- ---- one answer only: any two answers that meet a reader's promise are equal
 
-abbrev value : Answer → ℕ
-value s = get_or s.values 0 0
+-- the value of a reader that gives one
+abbrev value : List ℕ → ℕ
+value vs = get_or vs 0 0
 
-refusal_back : Answer → Refusal
-refusal_back s =
-    pick (eqb s.number 5) Refusal.ShortContents
-    (pick (eqb s.number 6) Refusal.BadCheckBits
-    (pick (eqb s.number 7) Refusal.HeaderPastBuffer Refusal.FieldsPastHeader))
+pub one-contents : (s : Answer) (a b : Result (Unit {0}) Refusal) → given no_values a ≡ s → given no_values b ≡ s → a ≡ b
+one-contents = given_one no_values (λ vs. tt) (λ x. refl)
 
--- the answer of a reader: refused from 5 to 8, else another
-abbrev back : {A : Type 0} → (Answer → A) → (Refusal → A) → Answer → A
-back other f s = pick (leb 5 s.number) (pick (leb s.number 8) (f (refusal_back s)) (other s)) (other s)
+pub one_byte : (s : Answer) (a b : Result ℕ Refusal) → given number_values a ≡ s → given number_values b ≡ s → a ≡ b
+one_byte = given_one number_values value (λ n. refl)
 
-back_refused : {A : Type 0} (other : Answer → A) (f : Refusal → A) (r : Refusal) → back other f (refusal r) ≡ f r
-unfolding refusal_back
-back_refused other f Refusal.ShortContents = refl
-back_refused other f Refusal.BadCheckBits = refl
-back_refused other f Refusal.HeaderPastBuffer = refl
-back_refused other f Refusal.FieldsPastHeader = refl
+alignment_back : List ℕ → DataAlignment
+alignment_back vs = pick (eqb (value vs) 1) DataAlignment.Aligned DataAlignment.NotAligned
 
-abbrev contents_back : Answer → ContentsRead
-contents_back s = ContentsRead.Done
+alignment_back-values : (a : DataAlignment) → alignment_back (alignment_values a) ≡ a
+unfolding alignment_back
+alignment_back-values DataAlignment.Aligned = refl
+alignment_back-values DataAlignment.NotAligned = refl
 
-contents_back-given : (r : ContentsRead) → back contents_back ContentsRead.Refused (given_contents r) ≡ r
-contents_back-given ContentsRead.Done = refl
-contents_back-given (ContentsRead.Refused r) = back_refused contents_back ContentsRead.Refused r
+pub one-alignment : (s : Answer) (a b : Result DataAlignment Refusal) → given alignment_values a ≡ s → given alignment_values b ≡ s → a ≡ b
+one-alignment = given_one alignment_values alignment_back alignment_back-values
 
-pub one-contents : (s : Answer) (a b : ContentsRead) → given_contents a ≡ s → given_contents b ≡ s → a ≡ b
-one-contents = one_answer given_contents (back contents_back ContentsRead.Refused) contents_back-given
+status_back : List ℕ → CopyrightStatus
+status_back vs = pick (eqb (value vs) 1) CopyrightStatus.Undefined CopyrightStatus.Protected
 
-abbrev byte_back : Answer → ByteRead
-byte_back s = ByteRead.Done (value s)
+status_back-values : (k : CopyrightStatus) → status_back (status_values k) ≡ k
+unfolding status_back
+status_back-values CopyrightStatus.Undefined = refl
+status_back-values CopyrightStatus.Protected = refl
 
-byte_back-given : (r : ByteRead) → back byte_back ByteRead.Refused (given_byte r) ≡ r
-byte_back-given (ByteRead.Done n) = refl
-byte_back-given (ByteRead.Refused r) = back_refused byte_back ByteRead.Refused r
+pub one-copyright : (s : Answer) (a b : Result CopyrightStatus Refusal) → given status_values a ≡ s → given status_values b ≡ s → a ≡ b
+one-copyright = given_one status_values status_back status_back-values
 
-pub one_byte : (s : Answer) (a b : ByteRead) → given_byte a ≡ s → given_byte b ≡ s → a ≡ b
-one_byte = one_answer given_byte (back byte_back ByteRead.Refused) byte_back-given
+originality_back : List ℕ → OriginalOrCopy
+originality_back vs = pick (eqb (value vs) 1) OriginalOrCopy.Original OriginalOrCopy.Copy
 
-abbrev alignment_back : Answer → AlignmentRead
-alignment_back s = AlignmentRead.Done (pick (eqb (value s) 1) DataAlignment.Aligned DataAlignment.NotAligned)
+originality_back-values : (o : OriginalOrCopy) → originality_back (originality_values o) ≡ o
+unfolding originality_back
+originality_back-values OriginalOrCopy.Original = refl
+originality_back-values OriginalOrCopy.Copy = refl
 
-alignment_back-given : (r : AlignmentRead) → back alignment_back AlignmentRead.Refused (given_alignment r) ≡ r
-alignment_back-given (AlignmentRead.Done DataAlignment.Aligned) = refl
-alignment_back-given (AlignmentRead.Done DataAlignment.NotAligned) = refl
-alignment_back-given (AlignmentRead.Refused r) = back_refused alignment_back AlignmentRead.Refused r
+pub one-original : (s : Answer) (a b : Result OriginalOrCopy Refusal) → given originality_values a ≡ s → given originality_values b ≡ s → a ≡ b
+one-original = given_one originality_values originality_back originality_back-values
 
-pub one-alignment : (s : Answer) (a b : AlignmentRead) → given_alignment a ≡ s → given_alignment b ≡ s → a ≡ b
-one-alignment = one_answer given_alignment (back alignment_back AlignmentRead.Refused) alignment_back-given
+-- the number and the values of a timestamp within an answer
+abbrev stamp : Result Timestamp Refusal → Answer
+stamp p = given timestamp_values p
 
-abbrev copyright_back : Answer → CopyrightRead
-copyright_back s = CopyrightRead.Done (pick (eqb (value s) 1) CopyrightStatus.Undefined CopyrightStatus.Protected)
+-- it is read, or a marker in it is not set
+abbrev pub Marked : Answer → Type 0
+Marked a = (a.number ≡ done) ⊎ (a.number ≡ marker_bit_not_set)
 
-copyright_back-given : (r : CopyrightRead) → back copyright_back CopyrightRead.Refused (given_copyright r) ≡ r
-copyright_back-given (CopyrightRead.Done CopyrightStatus.Undefined) = refl
-copyright_back-given (CopyrightRead.Done CopyrightStatus.Protected) = refl
-copyright_back-given (CopyrightRead.Refused r) = back_refused copyright_back CopyrightRead.Refused r
+abbrev pub MarkedTimes : Result PtsDts Refusal → Type 0
+MarkedTimes (Ok (PtsDts.PtsOnly p)) = Marked (given timestamp_values p)
+MarkedTimes (Ok (PtsDts.Both p d)) = Marked (given timestamp_values p) × Marked (given timestamp_values d)
+MarkedTimes (Err r) = Unit {0}
 
-pub one-copyright : (s : Answer) (a b : CopyrightRead) → given_copyright a ≡ s → given_copyright b ≡ s → a ≡ b
-one-copyright = one_answer given_copyright (back copyright_back CopyrightRead.Refused) copyright_back-given
+pub stamp-marked : (xs : List ℕ) → 5 ≤ length xs → Marked (read_stamp xs)
+unfolding read_stamp
+stamp-marked xs h = rw (le-ltb (length xs) 5 h) (go (eqb (bit xs 7) 0) (eqb (bit xs 23) 0) (eqb (bit xs 39) 0))
+  where
+    go : (p q r : Bool)
+        → Marked (pick p (answer 12 (7 ∷ [])) (pick q (answer 12 (23 ∷ [])) (pick r (answer 12 (39 ∷ [])) (answer 0 (stamp_value xs ∷ [])))))
+    go true q r = inr refl
+    go false true r = inr refl
+    go false false true = inr refl
+    go false false false = inl refl
 
-abbrev original_back : Answer → OriginalRead
-original_back s = OriginalRead.Done (pick (eqb (value s) 1) OriginalOrCopy.Original OriginalOrCopy.Copy)
+-- no other refusal of a timestamp arises
+module _ (c : List ℕ) where
+  times_there : Accepted c → flag c 8 ≡ true → 8 + 5 * bit c 9 ≤ length c
+  unfolding escr_at times_size
+  times_there ok e = let h : 3 + pick (flag c 8) (5 + 5 * bit c 9) 0 ≤ length c = times-fit c ok in omega (arith, rw e at h)
 
-original_back-given : (r : OriginalRead) → back original_back OriginalRead.Refused (given_original r) ≡ r
-original_back-given (OriginalRead.Done OriginalOrCopy.Original) = refl
-original_back-given (OriginalRead.Done OriginalOrCopy.Copy) = refl
-original_back-given (OriginalRead.Refused r) = back_refused original_back OriginalRead.Refused r
+  stamp_there : (at : ℕ) (p : Result Timestamp Refusal) → at + 5 ≤ length c → (stamp p).number ≡ (read_stamp (drop at c)).number → Marked (stamp p)
+  stamp_there at p h e = rw e (stamp-marked (drop at c) (simp length-drop (omega arith)))
 
-pub one-original : (s : Answer) (a b : OriginalRead) → given_original a ≡ s → given_original b ≡ s → a ≡ b
-one-original = one_answer given_original (back original_back OriginalRead.Refused) original_back-given
+  pub pts_dts-marked : (a : Result PtsDts Refusal) → given pts_dts_values a ≡ read_pts_dts c → MarkedTimes a
+  unfolding read_pts_dts not_contents
+  pts_dts-marked (Err r) e = tt
+  pts_dts-marked (Ok t) e =
+      let ok : Accepted c = passes c (passed (not_contents c) _ (omega arith) (sym (ap (λ (s : Answer). s.number) e))) in
+      go t ok (flag c 8) refl (flag c 9) refl (e ∙ ok.is _)
+    where
+      number : Answer → ℕ
+      number s = s.number
 
-stamp_back : ℕ → ℕ → StampRead
-stamp_back n v = pick (eqb n 0) (StampRead.Done (record { val = v })) (StampRead.MarkerBitNotSet v)
+      at : ℕ → Answer → ℕ
+      at i s = get_or s.values i 0
 
-stamp_back-given : (p : StampRead) → stamp_back (given_stamp p).number (value (given_stamp p)) ≡ p
-unfolding stamp_back
-stamp_back-given (StampRead.Done t) = refl
-stamp_back-given (StampRead.MarkerBitNotSet b) = refl
+      go : (t : PtsDts) → Accepted c → (p : Bool) → flag c 8 ≡ p → (d : Bool) → flag c 9 ≡ d
+          → answer 0 (pts_dts_values t) ≡ pick p
+          (pick d (answer 0 (2 ∷ inner (read_stamp (drop 3 c)) ++ inner (read_stamp (drop 8 c)))) (answer 0 (1 ∷ inner (read_stamp (drop 3 c)))))
+          (pick d (answer 10 []) (answer 9 [])) → MarkedTimes (Ok t)
+      go t ok false p true d e = absurd (omega (arith, ap number e))
+      go t ok false p false d e = absurd (omega (arith, ap number e))
+      go (PtsDts.PtsOnly x) ok true p true d e = absurd (omega (arith, ap (at 0) e))
+      go (PtsDts.Both x y) ok true p false d e = absurd (omega (arith, ap (at 0) e))
+      go (PtsDts.PtsOnly x) ok true p false d e = stamp_there 3 x (omega (arith, times_there ok p)) (ap (at 1) e)
+      go (PtsDts.Both x y) ok true p true d e =
+          let h : 13 ≤ length c = omega (arith, times_there ok p, eqb-true (bit c 9) 1 d) in
+          (stamp_there 3 x (omega arith) (ap (at 1) e), stamp_there 8 y (omega arith) (ap (at 3) e))
 
-abbrev times_back : Answer → PtsDts
-times_back s =
-    pick (eqb s.number 9) PtsDts.FieldNotPresent
-    (pick (eqb s.number 10) PtsDts.PtsDtsFlagsInvalid
-    (pick (eqb (value s) 1) (PtsDts.PtsOnly (stamp_back (get_or s.values 1 0) (get_or s.values 2 0)))
-    (PtsDts.Both (stamp_back (get_or s.values 1 0) (get_or s.values 2 0)) (stamp_back (get_or s.values 3 0) (get_or s.values 4 0)))))
+stamp_back : ℕ → ℕ → Result Timestamp Refusal
+stamp_back n v = pick (eqb n 0) (Ok (record { val = v })) (Err (MarkerBitNotSet v))
 
-times_back-given : (r : PtsDts) → back times_back PtsDts.Refused (given_pts_dts r) ≡ r
-times_back-given (PtsDts.PtsOnly p) = ap PtsDts.PtsOnly (stamp_back-given p)
-times_back-given (PtsDts.Both p d) = ap₂ PtsDts.Both (stamp_back-given p) (stamp_back-given d)
-times_back-given PtsDts.FieldNotPresent = refl
-times_back-given PtsDts.PtsDtsFlagsInvalid = refl
-times_back-given (PtsDts.Refused r) = back_refused times_back PtsDts.Refused r
+stamp_back-given : (p : Result Timestamp Refusal) → Marked (stamp p) → stamp_back (stamp p).number (value (stamp p).values) ≡ p
+unfolding stamp_back back_refusal
+stamp_back-given (Ok t) m = refl
+stamp_back-given (Err r) (inl e) = absurd (omega (arith, refused_above r))
+stamp_back-given (Err r) (inr e) = simp e (ap Err (simp e at (back_refusal-refused r)))
 
-pub one-pts_dts : (s : Answer) (a b : PtsDts) → given_pts_dts a ≡ s → given_pts_dts b ≡ s → a ≡ b
-one-pts_dts = one_answer given_pts_dts (back times_back PtsDts.Refused) times_back-given
+times_back : List ℕ → PtsDts
+times_back vs =
+    let v : ℕ → ℕ = λ i. get_or vs i 0 in
+    pick (eqb (v 0) 1) (PtsDts.PtsOnly (stamp_back (v 1) (v 2))) (PtsDts.Both (stamp_back (v 1) (v 2)) (stamp_back (v 3) (v 4)))
 
--- a flagged field: 9 where it is absent, else its values
-abbrev there : {A : Type 0} → A → (List ℕ → A) → Answer → A
-there absent f s = pick (eqb s.number 9) absent (f s.values)
+pts_dts_back : Answer → Result PtsDts Refusal
+pts_dts_back s = pick (eqb s.number 0) (Ok (times_back s.values)) (Err (back_refusal s))
 
-abbrev escr_back : Answer → EscrRead
-escr_back s = there EscrRead.FieldNotPresent (λ vs. EscrRead.Done (record { base = get_or vs 0 0; extension = get_or vs 1 0 })) s
+pts_dts_back-given : (a : Result PtsDts Refusal) → MarkedTimes a → pts_dts_back (given pts_dts_values a) ≡ a
+unfolding pts_dts_back times_back
+pts_dts_back-given (Ok (PtsDts.PtsOnly p)) m = ap (λ (x : Result Timestamp Refusal). Ok (PtsDts.PtsOnly x)) (stamp_back-given p m)
+pts_dts_back-given (Ok (PtsDts.Both p d)) m =
+    ap₂ (λ (x y : Result Timestamp Refusal). Ok (PtsDts.Both x y)) (stamp_back-given p m.0) (stamp_back-given d m.1)
+pts_dts_back-given (Err r) m = refused-not_done r _ _ ∙ ap Err (back_refusal-refused r)
 
-escr_back-given : (r : EscrRead) → back escr_back EscrRead.Refused (given_escr r) ≡ r
-escr_back-given (EscrRead.Done c) = refl
-escr_back-given EscrRead.FieldNotPresent = refl
-escr_back-given (EscrRead.Refused r) = back_refused escr_back EscrRead.Refused r
+pub one-marked : (s : Answer) (a b : Result PtsDts Refusal) → MarkedTimes a → MarkedTimes b
+    → given pts_dts_values a ≡ s → given pts_dts_values b ≡ s → a ≡ b
+one-marked s a b m n p q = sym (pts_dts_back-given a m) ∙ (ap pts_dts_back (p ∙ sym q) ∙ pts_dts_back-given b n)
 
-pub one-escr : (s : Answer) (a b : EscrRead) → given_escr a ≡ s → given_escr b ≡ s → a ≡ b
-one-escr = one_answer given_escr (back escr_back EscrRead.Refused) escr_back-given
+pub one-pts_dts : (c : List ℕ) (a b : Result PtsDts Refusal)
+    → given pts_dts_values a ≡ read_pts_dts c → given pts_dts_values b ≡ read_pts_dts c → a ≡ b
+one-pts_dts c a b p q = one-marked (read_pts_dts c) a b (pts_dts-marked c a p) (pts_dts-marked c b q) p q
 
-made_back : Answer → EsRateMade
-made_back s = pick (eqb s.number 0) (EsRateMade.Done (record { 0 = value s })) EsRateMade.OutOfRange
+pub one-escr : (s : Answer) (a b : Result ClockRef Refusal) → given clock_values a ≡ s → given clock_values b ≡ s → a ≡ b
+one-escr = given_one clock_values (λ vs. record { base = get_or vs 0 0; extension = get_or vs 1 0 }) (λ c. refl)
 
-made_back-given : (r : EsRateMade) → made_back (given_rate_made r) ≡ r
-unfolding made_back
-made_back-given (EsRateMade.Done e) = refl
-made_back-given EsRateMade.OutOfRange = refl
+pub one-rate-made : (s : Answer) (a b : Result EsRate Refusal) → given rate_values a ≡ s → given rate_values b ≡ s → a ≡ b
+one-rate-made = given_one rate_values (λ vs. record { 0 = value vs }) (λ e. refl)
 
-pub one-rate-made : (s : Answer) (a b : EsRateMade) → given_rate_made a ≡ s → given_rate_made b ≡ s → a ≡ b
-one-rate-made = one_answer given_rate_made made_back made_back-given
+pub one-rate-number : (s : Answer) (a b : Result ℕ Refusal) → given number_values a ≡ s → given number_values b ≡ s → a ≡ b
+one-rate-number = one_byte
 
-number_back : Answer → EsRateNumber
-number_back s = pick (eqb s.number 0) (EsRateNumber.Done (value s)) EsRateNumber.OutOfRange
-
-number_back-given : (r : EsRateNumber) → number_back (given_rate_number r) ≡ r
-unfolding number_back
-number_back-given (EsRateNumber.Done n) = refl
-number_back-given EsRateNumber.OutOfRange = refl
-
-pub one-rate-number : (s : Answer) (a b : EsRateNumber) → given_rate_number a ≡ s → given_rate_number b ≡ s → a ≡ b
-one-rate-number = one_answer given_rate_number number_back number_back-given
-
-abbrev rate_back : Answer → EsRateRead
-rate_back s = there EsRateRead.FieldNotPresent (λ vs. EsRateRead.Done (record { 0 = get_or vs 0 0 })) s
-
-rate_back-given : (r : EsRateRead) → back rate_back EsRateRead.Refused (given_es_rate r) ≡ r
-rate_back-given (EsRateRead.Done e) = refl
-rate_back-given EsRateRead.FieldNotPresent = refl
-rate_back-given (EsRateRead.Refused r) = back_refused rate_back EsRateRead.Refused r
-
-pub one-es-rate : (s : Answer) (a b : EsRateRead) → given_es_rate a ≡ s → given_es_rate b ≡ s → a ≡ b
-one-es-rate = one_answer given_es_rate (back rate_back EsRateRead.Refused) rate_back-given
+pub one-es-rate : (s : Answer) (a b : Result EsRate Refusal) → given rate_values a ≡ s → given rate_values b ≡ s → a ≡ b
+one-es-rate = one-rate-made
 
 truncation_back : ℕ → FrequencyTruncationCoefficientSelection
 truncation_back n =
@@ -232,73 +226,40 @@ mode_back-values (DsmTrickMode.FastReverse f i t) = ap₂ (DsmTrickMode.FastReve
 mode_back-values (DsmTrickMode.SlowReverse n) = refl
 mode_back-values (DsmTrickMode.Reserved n) = refl
 
-abbrev trick_back : Answer → TrickRead
-trick_back s = there TrickRead.FieldNotPresent (λ vs. TrickRead.Done (mode_back vs)) s
+pub one-trick : (s : Answer) (a b : Result DsmTrickMode Refusal) → given trick_values a ≡ s → given trick_values b ≡ s → a ≡ b
+one-trick = given_one trick_values mode_back mode_back-values
 
-trick_back-given : (r : TrickRead) → back trick_back TrickRead.Refused (given_trick r) ≡ r
-trick_back-given (TrickRead.Done m) = ap TrickRead.Done (mode_back-values m)
-trick_back-given TrickRead.FieldNotPresent = refl
-trick_back-given (TrickRead.Refused r) = back_refused trick_back TrickRead.Refused r
+pub one_field : (s : Answer) (a b : Result ℕ Refusal) → given number_values a ≡ s → given number_values b ≡ s → a ≡ b
+one_field = one_byte
 
-pub one-trick : (s : Answer) (a b : TrickRead) → given_trick a ≡ s → given_trick b ≡ s → a ≡ b
-one-trick = one_answer given_trick (back trick_back TrickRead.Refused) trick_back-given
+pub one-copy-info : (s : Answer) (a b : Result ℕ Refusal) → given number_values a ≡ s → given number_values b ≡ s → a ≡ b
+one-copy-info = one_byte
 
-abbrev field_back : Answer → FieldRead
-field_back s = there FieldRead.FieldNotPresent (λ vs. FieldRead.Done (get_or vs 0 0)) s
+pub one-crc : (s : Answer) (a b : Result ℕ Refusal) → given number_values a ≡ s → given number_values b ≡ s → a ≡ b
+one-crc = one_byte
 
-field_back-given : (r : FieldRead) → back field_back FieldRead.Refused (given_field r) ≡ r
-field_back-given (FieldRead.Done n) = refl
-field_back-given FieldRead.FieldNotPresent = refl
-field_back-given (FieldRead.Refused r) = back_refused field_back FieldRead.Refused r
+pub one-part : (s : Answer) (a b : Result Extent Refusal) → given extent_values a ≡ s → given extent_values b ≡ s → a ≡ b
+one-part = given_one extent_values (λ vs. record { place = get_or vs 0 0; length = get_or vs 1 0 }) (λ x. refl)
 
-pub one_field : (s : Answer) (a b : FieldRead) → given_field a ≡ s → given_field b ≡ s → a ≡ b
-one_field = one_answer given_field (back field_back FieldRead.Refused) field_back-given
+places_back : List ℕ → Places
+places_back vs =
+    let v : ℕ → ℕ = λ i. get_or vs i 0 in
+    record {
+      escr = v 0;
+      es_rate = v 1;
+      dsm_trick_mode = v 2;
+      additional_copy_info = v 3;
+      previous_pes_packet_crc = v 4;
+      pes_extension = v 5;
+      payload = v 6;
+    }
 
-abbrev copy_info_back : Answer → CopyInfoRead
-copy_info_back s = pick (eqb s.number 12) (CopyInfoRead.MarkerBitNotSet (value s)) (there CopyInfoRead.FieldNotPresent (λ vs. CopyInfoRead.Done (get_or vs 0 0)) s)
+places_back-values : (x : Places) → places_back (places_values x) ≡ x
+unfolding places_back
+places_back-values x = refl
 
-copy_info_back-given : (r : CopyInfoRead) → back copy_info_back CopyInfoRead.Refused (given_copy_info r) ≡ r
-copy_info_back-given (CopyInfoRead.Done n) = refl
-copy_info_back-given CopyInfoRead.FieldNotPresent = refl
-copy_info_back-given (CopyInfoRead.MarkerBitNotSet b) = refl
-copy_info_back-given (CopyInfoRead.Refused r) = back_refused copy_info_back CopyInfoRead.Refused r
-
-pub one-copy-info : (s : Answer) (a b : CopyInfoRead) → given_copy_info a ≡ s → given_copy_info b ≡ s → a ≡ b
-one-copy-info = one_answer given_copy_info (back copy_info_back CopyInfoRead.Refused) copy_info_back-given
-
-abbrev crc_back : Answer → CrcRead
-crc_back s = there CrcRead.FieldNotPresent (λ vs. CrcRead.Done (get_or vs 0 0)) s
-
-crc_back-given : (r : CrcRead) → back crc_back CrcRead.Refused (given_crc r) ≡ r
-crc_back-given (CrcRead.Done n) = refl
-crc_back-given CrcRead.FieldNotPresent = refl
-crc_back-given (CrcRead.Refused r) = back_refused crc_back CrcRead.Refused r
-
-pub one-crc : (s : Answer) (a b : CrcRead) → given_crc a ≡ s → given_crc b ≡ s → a ≡ b
-one-crc = one_answer given_crc (back crc_back CrcRead.Refused) crc_back-given
-
-abbrev part_back : Answer → PartRead
-part_back s = there PartRead.FieldNotPresent (λ vs. PartRead.Done (get_or vs 0 0) (get_or vs 1 0)) s
-
-part_back-given : (r : PartRead) → back part_back PartRead.Refused (given_part r) ≡ r
-part_back-given (PartRead.Done p n) = refl
-part_back-given PartRead.FieldNotPresent = refl
-part_back-given (PartRead.Refused r) = back_refused part_back PartRead.Refused r
-
-pub one-part : (s : Answer) (a b : PartRead) → given_part a ≡ s → given_part b ≡ s → a ≡ b
-one-part = one_answer given_part (back part_back PartRead.Refused) part_back-given
-
-abbrev places_back : Answer → PlacesRead
-places_back s =
-    let v : ℕ → ℕ = λ i. get_or s.values i 0 in
-    PlacesRead.Done (v 0) (v 1) (v 2) (v 3) (v 4) (v 5) (v 6)
-
-places_back-given : (r : PlacesRead) → back places_back PlacesRead.Refused (given_places r) ≡ r
-places_back-given (PlacesRead.Done e r t i s x p) = refl
-places_back-given (PlacesRead.Refused r) = back_refused places_back PlacesRead.Refused r
-
-pub one-places : (s : Answer) (a b : PlacesRead) → given_places a ≡ s → given_places b ≡ s → a ≡ b
-one-places = one_answer given_places (back places_back PlacesRead.Refused) places_back-given
+pub one-places : (s : Answer) (a b : Result Places Refusal) → given places_values a ≡ s → given places_values b ≡ s → a ≡ b
+one-places = given_one places_values places_back places_back-values
 
 -- and of what is read off a field's own bytes
 pub one-mode : (vs : List ℕ) (a b : DsmTrickMode) → trick_values a ≡ vs → trick_values b ≡ vs → a ≡ b

@@ -1,42 +1,31 @@
 // What follows the head of a PES packet that carries parsed contents (`PesParsedContents` of the original's pes.rs), read off a
 // slice that begins after the head's six bytes. Every reader refuses contents that `from_bytes` refuses, and by the same number.
-#![tactic(auto)]
+#![tactic(auto, using(crate::proofs::Laws::reader_laws))]
 
-ghost use Rattle.std.specs.Prelude.{◌≡◌, [], ◌∷◌, ◌++◌, ◌+◌, ◌≤◌, length, drop};
+ghost use Rattle.std.specs.Prelude.{◌≡◌, IfOk, [], ◌∷◌, ◌++◌, ℕ, ◌<◌, ◌≤◌, length, get_or, drop};
 ghost use Rattle.bits.specs.Answer.{answer, part_of};
 ghost use Rattle.bits.specs.Numbers.{done};
+ghost use Rattle.bits.specs.Refused.{given, no_values, number_values, extent_values};
 ghost use Rattle.bits.specs.Field.{field, flag};
-ghost use Rattle.timestamp.specs.Stamp.{read_stamp};
+ghost use Rattle.control.specs.Clock.{clock_values};
+ghost use Rattle.timestamp.specs.Stamp.{timestamp_values, read_stamp};
 ghost use Rattle.contents.specs.Contents.{scrambling_bit, pes_priority_bit, alignment_bit, copyright_bit, original_bit, flags_bit, data_length_bit};
 ghost use Rattle.contents.specs.Contents.{pts_bit, escr_bit, es_rate_bit, trick_bit, copy_info_bit, crc_bit, pes_extension_bit};
 ghost use Rattle.contents.specs.Contents.{read_contents, read_fixed, read_pts_dts, read_escr, read_es_rate, read_copy_info, read_crc};
 ghost use Rattle.contents.specs.Contents.{read_pes_extension, read_parsed_payload};
-ghost use Rattle.contents.specs.Contents.{flag_byte, FieldEnds, escr_at, es_rate_at, trick_at, copy_info_at, crc_at, fields_end, payload_at, places_of, read_places};
+ghost use Rattle.contents.specs.Contents.{flag_byte, FieldEnds, escr_at, es_rate_at, trick_at, copy_info_at, crc_at, fields_end, payload_at};
+ghost use Rattle.contents.specs.Contents.{places_of, read_places};
 ghost use Rattle.contents.specs.Contents.{escr_base, escr_extension, escr_answer, rate_of, copy_info_of, make_rate, rate_bytes};
 ghost use Rattle.contents.specs.Trick.{read_trick, read_raw_trick, trick_byte, truncation_bits};
-ghost use Rattle.contents.specs.Given.{given_contents, given_byte, given_alignment, given_copyright, given_original, given_stamp};
-ghost use Rattle.contents.specs.Given.{given_pts_dts, given_escr};
-ghost use Rattle.contents.specs.Given.{given_rate_made, given_rate_number, given_es_rate, truncation, trick_values, given_trick, given_field};
-ghost use Rattle.contents.specs.Given.{given_copy_info, given_crc, given_part, given_places};
+ghost use Rattle.contents.specs.Given.{alignment_values, status_values, originality_values, pts_dts_values, rate_values, truncation};
+ghost use Rattle.contents.specs.Given.{trick_values, places_values};
 
-use bits::{part, wide};
-use control::{ClockMade, ClockRef};
-use timestamp::{Timestamp, TimestampRead};
+mod fields;
 
-// Why contents are refused.
-#[derive(Clone, Copy)]
-pub enum Refusal {
-    ShortContents,
-    BadCheckBits,
-    HeaderPastBuffer,
-    FieldsPastHeader,
-}
-
-#[derive(Clone, Copy)]
-pub enum ContentsRead {
-    Done,
-    Refused(Refusal),
-}
+use bits::{Extent, Refusal, wide};
+use control::ClockRef;
+pub use fields::Places;
+use timestamp::Timestamp;
 
 const FIXED_HEADER_SIZE: usize = 3;
 
@@ -68,93 +57,112 @@ const BIT_15: u64 = 1 << 15;
 
 const BIT_30: u64 = 1 << 30;
 
-// Whether the slice begins with contents whose flagged fields fit their header data, and whose header data fits the slice.
-pub fn from_bytes(buf: &[u8]) -> ContentsRead
-    ensures { given_contents result ≡ read_contents buf.now }
-{
-    if buf.len() < FIXED_HEADER_SIZE {
-        return ContentsRead::Refused(Refusal::ShortContents);
+// Contents whose first three bytes are there: these tell where every field begins, whether they are accepted or not.
+#[derive(Clone, Copy)]
+struct Fixed<'a> {
+    buf: &'a [u8],
+    ghost there: { 3 ≤ length buf.now },
+    // nothing else tells a method that they are bytes
+    ghost bytes: { (i : ℕ) → get_or buf.now i 0 < 256 },
+}
+
+#[tactic(auto, using(crate::proofs::Laws::fixed_laws))]
+impl<'a> Fixed<'a> {
+    // The flags of the second byte, in the table's order.
+    fn pts_dts_flags(self) -> u8
+        ensures { result ≡ field self.entry.buf.now pts_bit 2 }
+    {
+        self.buf[1] / 64
     }
-    if buf[0] / 64 != 2 {
-        return ContentsRead::Refused(Refusal::BadCheckBits);
+
+    fn escr_flag(self) -> bool
+        ensures { result ≡ flag self.entry.buf.now escr_bit }
+    {
+        self.buf[1] / 32 % 2 == 1
     }
-    let end = header_end(buf);
-    if buf.len() < end {
-        return ContentsRead::Refused(Refusal::HeaderPastBuffer);
+
+    fn esrate_flag(self) -> bool
+        ensures { result ≡ flag self.entry.buf.now es_rate_bit }
+    {
+        self.buf[1] / 16 % 2 == 1
     }
-    // room for every field there is
-    if end >= FIELD_ENDS[0xFF] as usize {
-        return ContentsRead::Done;
+
+    fn dsm_trick_mode_flag(self) -> bool
+        ensures { result ≡ flag self.entry.buf.now trick_bit }
+    {
+        self.buf[1] / 8 % 2 == 1
     }
-    if end < pes_crc_end(buf) {
-        return ContentsRead::Refused(Refusal::FieldsPastHeader);
+
+    fn additional_copy_info_flag(self) -> bool
+        ensures { result ≡ flag self.entry.buf.now copy_info_bit }
+    {
+        self.buf[1] / 4 % 2 == 1
     }
-    ContentsRead::Done
-}
 
-// The flags of the second byte, in the table's order.
-fn pts_dts_flags(buf: &[u8]) -> u8
-    requires { 3 ≤ length buf.now }
-    ensures { result ≡ field buf.now pts_bit 2 }
-{
-    buf[1] / 64
-}
+    fn pes_crc_flag(self) -> bool
+        ensures { result ≡ flag self.entry.buf.now crc_bit }
+    {
+        self.buf[1] / 2 % 2 == 1
+    }
 
-fn escr_flag(buf: &[u8]) -> bool
-    requires { 3 ≤ length buf.now }
-    ensures { result ≡ flag buf.now escr_bit }
-{
-    buf[1] / 32 % 2 == 1
-}
+    fn pes_extension_flag(self) -> bool
+        ensures { result ≡ flag self.entry.buf.now pes_extension_bit }
+    {
+        self.buf[1] % 2 == 1
+    }
 
-fn esrate_flag(buf: &[u8]) -> bool
-    requires { 3 ≤ length buf.now }
-    ensures { result ≡ flag buf.now es_rate_bit }
-{
-    buf[1] / 16 % 2 == 1
-}
+    fn header_end(self) -> usize
+        ensures { result ≡ payload_at self.entry.buf.now }
+    {
+        FIXED_HEADER_SIZE + self.buf[2] as usize
+    }
 
-fn dsm_trick_mode_flag(buf: &[u8]) -> bool
-    requires { 3 ≤ length buf.now }
-    ensures { result ≡ flag buf.now trick_bit }
-{
-    buf[1] / 8 % 2 == 1
-}
+    // Where a field ends, and the next begins: the entry of the flags with those of all later fields cleared.
+    fn pts_dts_end(self) -> usize
+        ensures { result ≡ escr_at self.entry.buf.now }
+    {
+        match self.pts_dts_flags() {
+            0 => FIELD_ENDS[0x00] as usize,
+            1 => FIELD_ENDS[0x40] as usize,
+            2 => FIELD_ENDS[0x80] as usize,
+            _ => FIELD_ENDS[0xC0] as usize,
+        }
+    }
 
-fn additional_copy_info_flag(buf: &[u8]) -> bool
-    requires { 3 ≤ length buf.now }
-    ensures { result ≡ flag buf.now copy_info_bit }
-{
-    buf[1] / 4 % 2 == 1
-}
+    fn escr_end(self) -> usize
+        ensures { result ≡ es_rate_at self.entry.buf.now }
+    {
+        field_end(self.buf[1] / 32 * 32)
+    }
 
-fn pes_crc_flag(buf: &[u8]) -> bool
-    requires { 3 ≤ length buf.now }
-    ensures { result ≡ flag buf.now crc_bit }
-{
-    buf[1] / 2 % 2 == 1
-}
+    fn es_rate_end(self) -> usize
+        ensures { result ≡ trick_at self.entry.buf.now }
+    {
+        field_end(self.buf[1] / 16 * 16)
+    }
 
-fn pes_extension_flag(buf: &[u8]) -> bool
-    requires { 3 ≤ length buf.now }
-    ensures { result ≡ flag buf.now pes_extension_bit }
-{
-    buf[1] % 2 == 1
-}
+    fn dsm_trick_mode_end(self) -> usize
+        ensures { result ≡ copy_info_at self.entry.buf.now }
+    {
+        field_end(self.buf[1] / 8 * 8)
+    }
 
-fn header_end(buf: &[u8]) -> usize
-    requires { 3 ≤ length buf.now }
-    ensures { (result ≡ payload_at buf.now) × (result ≤ 258) }
-{
-    FIXED_HEADER_SIZE + buf[2] as usize
-}
+    fn additional_copy_info_end(self) -> usize
+        ensures { result ≡ crc_at self.entry.buf.now }
+    {
+        field_end(self.buf[1] / 4 * 4)
+    }
 
-// The entry of a flag byte.
-fn entry(ends: &[u8; 256], flags: u8) -> usize
-    requires { FieldEnds ends.now }
-    ensures { result ≡ fields_end (flag_byte flags) }
-{
-    ends[flags as usize] as usize
+    // Where the flagged fields end. Nearly every header of a broadcast announces a PTS, or a PTS and a DTS, and nothing else.
+    fn pes_crc_end(self) -> usize
+        ensures { result ≡ fields_end self.entry.buf.now }
+    {
+        match self.buf[1] {
+            0x80 => FIELD_ENDS[0x80] as usize,
+            0xC0 => FIELD_ENDS[0xC0] as usize,
+            flags => field_end(flags),
+        }
+    }
 }
 
 // Each function that looks a flag byte up lays the table on the stack first, so what is usual goes its own way: docs/PERFORMANCE.md.
@@ -164,288 +172,351 @@ fn field_end(flags: u8) -> usize
     entry(&FIELD_ENDS, flags)
 }
 
-// Where a field ends, and the next begins: the entry of the flags with those of all later fields cleared.
-fn pts_dts_end(buf: &[u8]) -> usize
-    requires { 3 ≤ length buf.now }
-    ensures { (result ≡ escr_at buf.now) × (result ≤ 13) }
+// The entry of a flag byte.
+#[tactic(auto, using(crate::proofs::Laws::fixed_laws))]
+fn entry(ends: &[u8; 256], flags: u8) -> usize
+    requires { FieldEnds ends.now }
+    ensures { result ≡ fields_end (flag_byte flags) }
 {
-    match pts_dts_flags(buf) {
-        0 => FIELD_ENDS[0x00] as usize,
-        1 => FIELD_ENDS[0x40] as usize,
-        2 => FIELD_ENDS[0x80] as usize,
-        _ => FIELD_ENDS[0xC0] as usize,
-    }
+    ends[flags as usize] as usize
 }
 
-fn escr_end(buf: &[u8]) -> usize
-    requires { 3 ≤ length buf.now }
-    ensures { (result ≡ es_rate_at buf.now) × (result ≤ 19) }
-{
-    field_end(buf[1] / 32 * 32)
-}
-
-fn es_rate_end(buf: &[u8]) -> usize
-    requires { 3 ≤ length buf.now }
-    ensures { (result ≡ trick_at buf.now) × (result ≤ 22) }
-{
-    field_end(buf[1] / 16 * 16)
-}
-
-fn dsm_trick_mode_end(buf: &[u8]) -> usize
-    requires { 3 ≤ length buf.now }
-    ensures { (result ≡ copy_info_at buf.now) × (result ≤ 23) }
-{
-    field_end(buf[1] / 8 * 8)
-}
-
-fn additional_copy_info_end(buf: &[u8]) -> usize
-    requires { 3 ≤ length buf.now }
-    ensures { (result ≡ crc_at buf.now) × (result ≤ 24) }
-{
-    field_end(buf[1] / 4 * 4)
-}
-
-// Where the flagged fields end. Nearly every header of a broadcast announces a PTS, or a PTS and a DTS, and nothing else.
-fn pes_crc_end(buf: &[u8]) -> usize
-    requires { 3 ≤ length buf.now }
-    ensures { (result ≡ fields_end buf.now) × (result ≤ 26) }
-{
-    match buf[1] {
-        0x80 => FIELD_ENDS[0x80] as usize,
-        0xC0 => FIELD_ENDS[0xC0] as usize,
-        flags => field_end(flags),
-    }
-}
-
-// A number that is always there.
+// Contents that are accepted: their flagged fields fit their header data, and their header data fits the slice.
 #[derive(Clone, Copy)]
-pub enum ByteRead {
-    Done(u8),
-    Refused(Refusal),
+pub struct PesParsedContents<'a> {
+    fixed: Fixed<'a>,
+    pub ghost accepted: { answer done [] ≡ read_contents fixed.buf.now },
 }
 
-pub fn pes_priority(buf: &[u8]) -> ByteRead
-    ensures { given_byte result ≡ read_fixed pes_priority_bit 1 buf.now }
-{
-    match from_bytes(buf) {
-        ContentsRead::Refused(r) => ByteRead::Refused(r),
-        ContentsRead::Done => ByteRead::Done(buf[0] / 8 % 2),
+impl<'a> PesParsedContents<'a> {
+    #[tactic(auto, using(crate::proofs::Laws::head_laws))]
+    pub fn from_bytes(buf: &'a [u8]) -> Result<PesParsedContents<'a>, Refusal>
+        ensures told { given no_values result ≡ read_contents buf.now }
+        ensures kept { IfOk result (λ c. c.fixed.buf.now ≡ buf.now) }
+    {
+        if buf.len() < FIXED_HEADER_SIZE {
+            return Err(Refusal::ShortContents);
+        }
+        if buf[0] / 64 != 2 {
+            return Err(Refusal::BadCheckBits);
+        }
+        let fixed = Fixed { buf };
+        let end = fixed.header_end();
+        if buf.len() < end {
+            return Err(Refusal::HeaderPastBuffer);
+        }
+        // room for every field there is
+        if end >= FIELD_ENDS[0xFF] as usize {
+            return Ok(PesParsedContents { fixed });
+        }
+        if end < fixed.pes_crc_end() {
+            return Err(Refusal::FieldsPastHeader);
+        }
+        Ok(PesParsedContents { fixed })
     }
+
+    pub fn pes_priority(self) -> u8
+        ensures { answer done (number_values result) ≡ read_fixed pes_priority_bit 1 self.entry.fixed.buf.now }
+    {
+        self.fixed.buf[0] / 8 % 2
+    }
+
+    // Added: the original does not read it.
+    pub fn pes_scrambling_control(self) -> u8
+        ensures { answer done (number_values result) ≡ read_fixed scrambling_bit 2 self.entry.fixed.buf.now }
+    {
+        self.fixed.buf[0] / 16 % 4
+    }
+
+    // The eight flags as one byte, as the table has them. Added: the original keeps them to itself.
+    pub fn flags(self) -> u8
+        ensures { answer done (number_values result) ≡ read_fixed flags_bit 8 self.entry.fixed.buf.now }
+    {
+        self.fixed.buf[1]
+    }
+
+    // Added: the original keeps it to itself.
+    pub fn pes_header_data_len(self) -> u8
+        ensures { answer done (number_values result) ≡ read_fixed data_length_bit 8 self.entry.fixed.buf.now }
+    {
+        self.fixed.buf[2]
+    }
+
+    pub fn data_alignment_indicator(self) -> DataAlignment
+        ensures { answer done (alignment_values result) ≡ read_fixed alignment_bit 1 self.entry.fixed.buf.now }
+    {
+        if self.fixed.buf[0] / 4 % 2 == 0 {
+            return DataAlignment::NotAligned;
+        }
+        DataAlignment::Aligned
+    }
+
+    // The original's sense of the bit, which is not the standard's: docs/DIFFERENCES.md.
+    pub fn copyright(self) -> CopyrightStatus
+        ensures { answer done (status_values result) ≡ read_fixed copyright_bit 1 self.entry.fixed.buf.now }
+    {
+        if self.fixed.buf[0] / 2 % 2 == 0 {
+            return CopyrightStatus::Protected;
+        }
+        CopyrightStatus::Undefined
+    }
+
+    pub fn original_or_copy(self) -> OriginalOrCopy
+        ensures { answer done (originality_values result) ≡ read_fixed original_bit 1 self.entry.fixed.buf.now }
+    {
+        if self.fixed.buf[0] % 2 == 0 {
+            return OriginalOrCopy::Copy;
+        }
+        OriginalOrCopy::Original
+    }
+
+    #[tactic(auto, using(crate::proofs::Laws::times_laws))]
+    pub fn pts_dts(self) -> Result<PtsDts, Refusal>
+        ensures { given pts_dts_values result ≡ read_pts_dts self.entry.fixed.buf.now }
+    {
+        match self.fixed.pts_dts_flags() {
+            0 => Err(Refusal::FieldNotPresent),
+            1 => Err(Refusal::PtsDtsFlagsInvalid),
+            2 => Ok(PtsDts::PtsOnly(stamp_at(self.fixed.buf, FIXED_HEADER_SIZE))),
+            _ => {
+                let pts = stamp_at(self.fixed.buf, FIXED_HEADER_SIZE);
+                let dts = stamp_at(self.fixed.buf, FIXED_HEADER_SIZE + TIMESTAMP_SIZE);
+                Ok(PtsDts::Both { pts, dts })
+            }
+        }
+    }
+
+    // The elementary stream clock reference.
+    #[tactic(auto, using(crate::proofs::Laws::escr_laws))]
+    pub fn escr(self) -> Result<ClockRef, Refusal>
+        ensures { given clock_values result ≡ read_escr self.entry.fixed.buf.now }
+    {
+        if !self.fixed.escr_flag() {
+            return Err(Refusal::FieldNotPresent);
+        }
+        let buf = self.fixed.buf;
+        let at = self.fixed.pts_dts_end();
+        escr_of(
+            buf[at],
+            buf[at + 1],
+            buf[at + 2],
+            buf[at + 3],
+            buf[at + 4],
+            buf[at + 5],
+        )
+    }
+
+    #[tactic(auto, using(crate::proofs::Laws::rate_laws))]
+    pub fn es_rate(self) -> Result<EsRate, Refusal>
+        ensures { given rate_values result ≡ read_es_rate self.entry.fixed.buf.now }
+    {
+        if !self.fixed.esrate_flag() {
+            return Err(Refusal::FieldNotPresent);
+        }
+        let buf = self.fixed.buf;
+        let at = self.fixed.escr_end();
+        Ok(EsRate(rate_of(buf[at], buf[at + 1], buf[at + 2])))
+    }
+
+    #[tactic(auto, using(crate::proofs::Laws::raw_laws))]
+    pub fn dsm_trick_mode(self) -> Result<DsmTrickMode, Refusal>
+        ensures { given trick_values result ≡ read_trick self.entry.fixed.buf.now }
+    {
+        Ok(trick_of(self.raw_trick_mode()?))
+    }
+
+    // The trick mode byte as it stands. Added: the original gives the control number where the table has data bits.
+    #[tactic(auto, using(crate::proofs::Laws::raw_laws))]
+    pub fn raw_trick_mode(self) -> Result<u8, Refusal>
+        ensures { given number_values result ≡ read_raw_trick self.entry.fixed.buf.now }
+    {
+        if !self.fixed.dsm_trick_mode_flag() {
+            return Err(Refusal::FieldNotPresent);
+        }
+        Ok(self.fixed.buf[self.fixed.es_rate_end()])
+    }
+
+    #[tactic(auto, using(crate::proofs::Laws::copy_laws))]
+    pub fn additional_copy_info(self) -> Result<u8, Refusal>
+        ensures { given number_values result ≡ read_copy_info self.entry.fixed.buf.now }
+    {
+        if !self.fixed.additional_copy_info_flag() {
+            return Err(Refusal::FieldNotPresent);
+        }
+        copy_info_of(self.fixed.buf[self.fixed.dsm_trick_mode_end()])
+    }
+
+    // The checksum of the packet before; nothing is checked by it.
+    #[tactic(auto, using(crate::proofs::Laws::crc_laws))]
+    pub fn previous_pes_packet_crc(self) -> Result<u16, Refusal>
+        ensures { given number_values result ≡ read_crc self.entry.fixed.buf.now }
+    {
+        if !self.fixed.pes_crc_flag() {
+            return Err(Refusal::FieldNotPresent);
+        }
+        let buf = self.fixed.buf;
+        let at = self.fixed.additional_copy_info_end();
+        Ok(crc_of(buf[at], buf[at + 1]))
+    }
+
+    // Where the PES extension lies: from the end of the flagged fields to the end of the header data.
+    #[tactic(auto, using(crate::proofs::Laws::part_laws))]
+    pub fn pes_extension_at(self) -> Result<Extent, Refusal>
+        ensures { given extent_values result ≡ read_pes_extension self.entry.fixed.buf.now }
+    {
+        if !self.fixed.pes_extension_flag() {
+            return Err(Refusal::FieldNotPresent);
+        }
+        let place = self.fixed.pes_crc_end();
+        let end = self.fixed.header_end();
+        Ok(Extent {
+            place,
+            length: end - place,
+        })
+    }
+
+    // Where the payload lies that came in the same packet as the header.
+    #[tactic(auto, using(crate::proofs::Laws::part_laws))]
+    pub fn payload_at(self) -> Extent
+        ensures { answer done (extent_values result) ≡ read_parsed_payload self.entry.fixed.buf.now }
+    {
+        let place = self.fixed.header_end();
+        Extent {
+            place,
+            length: self.fixed.buf.len() - place,
+        }
+    }
+
+    // All places at once. Added: the original keeps them to itself.
+    #[tactic(auto, using(crate::proofs::Laws::part_laws))]
+    pub fn places(self) -> Places
+        ensures { answer done (places_values result) ≡ read_places self.entry.fixed.buf.now }
+    {
+        placed(&FIELD_ENDS, self.fixed.buf[1], self.fixed.header_end())
+    }
+}
+
+// Whether the slice begins with contents that are accepted.
+pub fn from_bytes(buf: &[u8]) -> Result<(), Refusal>
+    ensures { given no_values result ≡ read_contents buf.now }
+{
+    PesParsedContents::from_bytes(buf)?;
+    Ok(())
+}
+
+pub fn pes_priority(buf: &[u8]) -> Result<u8, Refusal>
+    ensures { given number_values result ≡ read_fixed pes_priority_bit 1 buf.now }
+{
+    Ok(PesParsedContents::from_bytes(buf)?.pes_priority())
 }
 
 // Added: the original does not read it.
-pub fn pes_scrambling_control(buf: &[u8]) -> ByteRead
-    ensures { given_byte result ≡ read_fixed scrambling_bit 2 buf.now }
+pub fn pes_scrambling_control(buf: &[u8]) -> Result<u8, Refusal>
+    ensures { given number_values result ≡ read_fixed scrambling_bit 2 buf.now }
 {
-    match from_bytes(buf) {
-        ContentsRead::Refused(r) => ByteRead::Refused(r),
-        ContentsRead::Done => ByteRead::Done(buf[0] / 16 % 4),
-    }
+    Ok(PesParsedContents::from_bytes(buf)?.pes_scrambling_control())
 }
 
 // The eight flags as one byte, as the table has them. Added: the original keeps them to itself.
-pub fn flags(buf: &[u8]) -> ByteRead
-    ensures { given_byte result ≡ read_fixed flags_bit 8 buf.now }
+pub fn flags(buf: &[u8]) -> Result<u8, Refusal>
+    ensures { given number_values result ≡ read_fixed flags_bit 8 buf.now }
 {
-    match from_bytes(buf) {
-        ContentsRead::Refused(r) => ByteRead::Refused(r),
-        ContentsRead::Done => ByteRead::Done(buf[1]),
-    }
+    Ok(PesParsedContents::from_bytes(buf)?.flags())
 }
 
 // Added: the original keeps it to itself.
-pub fn pes_header_data_len(buf: &[u8]) -> ByteRead
-    ensures { given_byte result ≡ read_fixed data_length_bit 8 buf.now }
+pub fn pes_header_data_len(buf: &[u8]) -> Result<u8, Refusal>
+    ensures { given number_values result ≡ read_fixed data_length_bit 8 buf.now }
 {
-    match from_bytes(buf) {
-        ContentsRead::Refused(r) => ByteRead::Refused(r),
-        ContentsRead::Done => ByteRead::Done(buf[2]),
-    }
+    Ok(PesParsedContents::from_bytes(buf)?.pes_header_data_len())
 }
 
-#[derive(Clone, Copy)]
+#[derive(Clone, Copy, Debug, PartialEq, Eq)]
 pub enum DataAlignment {
     Aligned,
     NotAligned,
 }
 
-#[derive(Clone, Copy)]
-pub enum AlignmentRead {
-    Done(DataAlignment),
-    Refused(Refusal),
-}
-
-pub fn data_alignment_indicator(buf: &[u8]) -> AlignmentRead
-    ensures { given_alignment result ≡ read_fixed alignment_bit 1 buf.now }
+pub fn data_alignment_indicator(buf: &[u8]) -> Result<DataAlignment, Refusal>
+    ensures { given alignment_values result ≡ read_fixed alignment_bit 1 buf.now }
 {
-    match from_bytes(buf) {
-        ContentsRead::Refused(r) => AlignmentRead::Refused(r),
-        ContentsRead::Done => {
-            if buf[0] / 4 % 2 == 0 {
-                return AlignmentRead::Done(DataAlignment::NotAligned);
-            }
-            AlignmentRead::Done(DataAlignment::Aligned)
-        }
-    }
+    Ok(PesParsedContents::from_bytes(buf)?.data_alignment_indicator())
 }
 
-#[derive(Clone, Copy)]
+#[derive(Clone, Copy, Debug, PartialEq, Eq)]
 pub enum CopyrightStatus {
     Protected,
     Undefined,
 }
 
-#[derive(Clone, Copy)]
-pub enum CopyrightRead {
-    Done(CopyrightStatus),
-    Refused(Refusal),
-}
-
 // The original's sense of the bit, which is not the standard's: docs/DIFFERENCES.md.
-pub fn copyright(buf: &[u8]) -> CopyrightRead
-    ensures { given_copyright result ≡ read_fixed copyright_bit 1 buf.now }
+pub fn copyright(buf: &[u8]) -> Result<CopyrightStatus, Refusal>
+    ensures { given status_values result ≡ read_fixed copyright_bit 1 buf.now }
 {
-    match from_bytes(buf) {
-        ContentsRead::Refused(r) => CopyrightRead::Refused(r),
-        ContentsRead::Done => {
-            if buf[0] / 2 % 2 == 0 {
-                return CopyrightRead::Done(CopyrightStatus::Protected);
-            }
-            CopyrightRead::Done(CopyrightStatus::Undefined)
-        }
-    }
+    Ok(PesParsedContents::from_bytes(buf)?.copyright())
 }
 
-#[derive(Clone, Copy)]
+#[derive(Clone, Copy, Debug, PartialEq, Eq)]
 pub enum OriginalOrCopy {
     Original,
     Copy,
 }
 
-#[derive(Clone, Copy)]
-pub enum OriginalRead {
-    Done(OriginalOrCopy),
-    Refused(Refusal),
-}
-
-pub fn original_or_copy(buf: &[u8]) -> OriginalRead
-    ensures { given_original result ≡ read_fixed original_bit 1 buf.now }
+pub fn original_or_copy(buf: &[u8]) -> Result<OriginalOrCopy, Refusal>
+    ensures { given originality_values result ≡ read_fixed original_bit 1 buf.now }
 {
-    match from_bytes(buf) {
-        ContentsRead::Refused(r) => OriginalRead::Refused(r),
-        ContentsRead::Done => {
-            if buf[0] % 2 == 0 {
-                return OriginalRead::Done(OriginalOrCopy::Copy);
-            }
-            OriginalRead::Done(OriginalOrCopy::Original)
-        }
-    }
+    Ok(PesParsedContents::from_bytes(buf)?.original_or_copy())
 }
 
-// A timestamp of the header, or its own refusal.
-#[derive(Clone, Copy)]
-pub enum StampRead {
-    Done(Timestamp),
-    MarkerBitNotSet { bit_number: u8 },
-}
-
-#[derive(Clone, Copy)]
+// Each timestamp of the header, or its own refusal.
+#[derive(Clone, Copy, Debug, PartialEq, Eq)]
 pub enum PtsDts {
-    PtsOnly(StampRead),
-    Both { pts: StampRead, dts: StampRead },
-    FieldNotPresent,
-    PtsDtsFlagsInvalid,
-    Refused(Refusal),
+    PtsOnly(Result<Timestamp, Refusal>),
+    Both {
+        pts: Result<Timestamp, Refusal>,
+        dts: Result<Timestamp, Refusal>,
+    },
 }
 
-pub fn pts_dts(buf: &[u8]) -> PtsDts
-    ensures { given_pts_dts result ≡ read_pts_dts buf.now }
+pub fn pts_dts(buf: &[u8]) -> Result<PtsDts, Refusal>
+    ensures { given pts_dts_values result ≡ read_pts_dts buf.now }
 {
-    match from_bytes(buf) {
-        ContentsRead::Refused(r) => PtsDts::Refused(r),
-        ContentsRead::Done => {
-            let flags = pts_dts_flags(buf);
-            if flags == 0 {
-                return PtsDts::FieldNotPresent;
-            }
-            if flags == 1 {
-                return PtsDts::PtsDtsFlagsInvalid;
-            }
-            if flags == 2 {
-                return PtsDts::PtsOnly(stamp_at(buf, FIXED_HEADER_SIZE));
-            }
-            let pts = stamp_at(buf, FIXED_HEADER_SIZE);
-            let dts = stamp_at(buf, FIXED_HEADER_SIZE + TIMESTAMP_SIZE);
-            PtsDts::Both { pts, dts }
-        }
-    }
+    PesParsedContents::from_bytes(buf)?.pts_dts()
 }
 
 // The timestamp at a place; its prefix is not looked at.
-fn stamp_at(buf: &[u8], at: usize) -> StampRead
-    requires { at + 5 ≤ length buf.now }
-    ensures { given_stamp result ≡ read_stamp (drop at buf.now) }
+fn stamp_at(buf: &[u8], at: usize) -> Result<Timestamp, Refusal>
+    requires { at ≤ length buf.now }
+    ensures { given timestamp_values result ≡ read_stamp (drop at buf.now) }
 {
-    match Timestamp::from_bytes(&buf[at..]) {
-        TimestampRead::Done(t) => StampRead::Done(t),
-        TimestampRead::MarkerBitNotSet { bit_number } => StampRead::MarkerBitNotSet { bit_number },
-        TimestampRead::WrongLength => StampRead::MarkerBitNotSet { bit_number: 0 },
-        TimestampRead::IncorrectPrefixBits {
-            expected: _,
-            actual: _,
-        } => { StampRead::MarkerBitNotSet { bit_number: 0 } }
-    }
-}
-
-#[derive(Clone, Copy)]
-pub enum EscrRead {
-    Done(ClockRef),
-    FieldNotPresent,
-    Refused(Refusal),
+    Timestamp::from_bytes(&buf[at..])
 }
 
 // The elementary stream clock reference.
-pub fn escr(buf: &[u8]) -> EscrRead
-    ensures { given_escr result ≡ read_escr buf.now }
+pub fn escr(buf: &[u8]) -> Result<ClockRef, Refusal>
+    ensures { given clock_values result ≡ read_escr buf.now }
 {
-    match from_bytes(buf) {
-        ContentsRead::Refused(r) => EscrRead::Refused(r),
-        ContentsRead::Done => {
-            if escr_flag(buf) {
-                let at = pts_dts_end(buf);
-                return escr_of(
-                    buf[at],
-                    buf[at + 1],
-                    buf[at + 2],
-                    buf[at + 3],
-                    buf[at + 4],
-                    buf[at + 5],
-                );
-            }
-            EscrRead::FieldNotPresent
-        }
-    }
+    PesParsedContents::from_bytes(buf)?.escr()
 }
 
 // The clock reference in the six bytes of an ESCR. 33 and 9 bits are always one.
-fn escr_of(a0: u8, a1: u8, a2: u8, a3: u8, a4: u8, a5: u8) -> EscrRead
-    ensures { given_escr result ≡ escr_answer (a0 ∷ a1 ∷ a2 ∷ a3 ∷ a4 ∷ a5 ∷ []) }
+#[tactic(auto, using(crate::proofs::Laws::byte_laws))]
+fn escr_of(a0: u8, a1: u8, a2: u8, a3: u8, a4: u8, a5: u8) -> Result<ClockRef, Refusal>
+    ensures { given clock_values result ≡ escr_answer (a0 ∷ a1 ∷ a2 ∷ a3 ∷ a4 ∷ a5 ∷ []) }
 {
     let parts = escr_parts(a0, a1, a2, a3, a4, a5);
-    match ClockRef::from_parts(parts.base, parts.extension) {
-        ClockMade::Done(c) => EscrRead::Done(c),
-        ClockMade::OutOfRange => EscrRead::FieldNotPresent,
-    }
+    ClockRef::from_parts(parts.base, parts.extension)
 }
 
 // The two numbers of a clock reference.
-#[derive(Clone, Copy)]
+#[derive(Clone, Copy, Debug, PartialEq, Eq)]
 pub struct ClockParts {
     pub base: u64,
     pub extension: u16,
 }
 
 // The two numbers in the six bytes of an ESCR; its markers are not looked at.
+#[tactic(auto, using(crate::proofs::Laws::byte_laws))]
 pub fn escr_parts(a0: u8, a1: u8, a2: u8, a3: u8, a4: u8, a5: u8) -> ClockParts
     ensures { (result.base ≡ escr_base (a0 ∷ a1 ∷ a2 ∷ a3 ∷ a4 ∷ a5 ∷ [])) × (result.extension ≡ escr_extension (a0 ∷ a1 ∷ a2 ∷ a3 ∷ a4 ∷ a5 ∷ [])) }
 {
@@ -466,75 +537,48 @@ pub fn escr_parts(a0: u8, a1: u8, a2: u8, a3: u8, a4: u8, a5: u8) -> ClockParts
 }
 
 // The rate at which an elementary stream comes, in units of 50 bytes a second.
-#[derive(Clone, Copy)]
+#[derive(Clone, Copy, Debug, PartialEq, Eq)]
 pub struct EsRate(u32);
 
-#[derive(Clone, Copy)]
-pub enum EsRateMade {
-    Done(EsRate),
-    OutOfRange,
-}
-
-#[derive(Clone, Copy)]
-pub enum EsRateNumber {
-    Done(u32),
-    OutOfRange,
-}
-
-#[derive(Clone, Copy)]
-pub enum EsRateRead {
-    Done(EsRate),
-    FieldNotPresent,
-    Refused(Refusal),
-}
-
+#[tactic(auto, using(crate::proofs::Laws::byte_laws))]
 impl EsRate {
     pub const RATE_BYTES_PER_SECOND: u32 = 50;
 
-    pub fn new(rate: u32) -> EsRateMade
-        ensures { given_rate_made result ≡ make_rate rate }
+    pub fn new(rate: u32) -> Result<EsRate, Refusal>
+        ensures { given rate_values result ≡ make_rate rate }
     {
-        if rate < 1 << 22 {
-            EsRateMade::Done(EsRate(rate))
-        } else {
-            EsRateMade::OutOfRange
+        if rate >= 1 << 22 {
+            return Err(Refusal::OutOfRange);
         }
+        Ok(EsRate(rate))
     }
 
-    pub fn bytes_per_second(self) -> EsRateNumber
-        ensures { given_rate_number result ≡ rate_bytes self.0 }
+    pub fn bytes_per_second(self) -> Result<u32, Refusal>
+        ensures { given number_values result ≡ rate_bytes self.0 }
     {
-        if self.0 < 1 << 22 {
-            EsRateNumber::Done(self.0 * EsRate::RATE_BYTES_PER_SECOND)
-        } else {
-            EsRateNumber::OutOfRange
+        if self.0 >= 1 << 22 {
+            return Err(Refusal::OutOfRange);
         }
-    }
-
-    // The original's u32::from(EsRate).
-    pub fn into_u32(self) -> u32
-        ensures { result ≡ self.0 }
-    {
-        self.0
+        Ok(self.0 * EsRate::RATE_BYTES_PER_SECOND)
     }
 }
 
-pub fn es_rate(buf: &[u8]) -> EsRateRead
-    ensures { given_es_rate result ≡ read_es_rate buf.now }
-{
-    match from_bytes(buf) {
-        ContentsRead::Refused(r) => EsRateRead::Refused(r),
-        ContentsRead::Done => {
-            if esrate_flag(buf) {
-                let at = escr_end(buf);
-                return EsRateRead::Done(EsRate(rate_of(buf[at], buf[at + 1], buf[at + 2])));
-            }
-            EsRateRead::FieldNotPresent
-        }
+impl From<EsRate> for u32 {
+    fn from(rate: EsRate) -> u32
+        ensures { result ≡ rate.0 }
+    {
+        rate.0
     }
+}
+
+pub fn es_rate(buf: &[u8]) -> Result<EsRate, Refusal>
+    ensures { given rate_values result ≡ read_es_rate buf.now }
+{
+    PesParsedContents::from_bytes(buf)?.es_rate()
 }
 
 // The rate in the three bytes of an ES_rate; its markers are not looked at.
+#[tactic(auto, using(crate::proofs::Laws::byte_laws))]
 pub fn rate_of(a0: u8, a1: u8, a2: u8) -> u32
     ensures { result ≡ rate_of (a0 ∷ a1 ∷ a2 ∷ []) }
 {
@@ -544,7 +588,7 @@ pub fn rate_of(a0: u8, a1: u8, a2: u8) -> u32
     (b0 % 128 * BIT_15 + b1 * 128 + b2 / 2) as u32
 }
 
-#[derive(Clone, Copy)]
+#[derive(Clone, Copy, Debug, PartialEq, Eq)]
 pub enum FrequencyTruncationCoefficientSelection {
     DCNonZero,
     FirstThreeNonZero,
@@ -552,7 +596,7 @@ pub enum FrequencyTruncationCoefficientSelection {
     AllMaybeNonZero,
 }
 
-#[derive(Clone, Copy)]
+#[derive(Clone, Copy, Debug, PartialEq, Eq)]
 pub enum DsmTrickMode {
     FastForward {
         field_id: u8,
@@ -579,29 +623,14 @@ pub enum DsmTrickMode {
     },
 }
 
-#[derive(Clone, Copy)]
-pub enum TrickRead {
-    Done(DsmTrickMode),
-    FieldNotPresent,
-    Refused(Refusal),
-}
-
-pub fn dsm_trick_mode(buf: &[u8]) -> TrickRead
-    ensures { given_trick result ≡ read_trick buf.now }
+pub fn dsm_trick_mode(buf: &[u8]) -> Result<DsmTrickMode, Refusal>
+    ensures { given trick_values result ≡ read_trick buf.now }
 {
-    match from_bytes(buf) {
-        ContentsRead::Refused(r) => TrickRead::Refused(r),
-        ContentsRead::Done => {
-            if dsm_trick_mode_flag(buf) {
-                let at = es_rate_end(buf);
-                return TrickRead::Done(trick_of(buf[at]));
-            }
-            TrickRead::FieldNotPresent
-        }
-    }
+    PesParsedContents::from_bytes(buf)?.dsm_trick_mode()
 }
 
 // The trick mode in its byte.
+#[tactic(auto, using(crate::proofs::Laws::trick_laws))]
 pub fn trick_of(byte: u8) -> DsmTrickMode
     ensures { trick_values result ≡ trick_byte byte }
 {
@@ -629,6 +658,7 @@ pub fn trick_of(byte: u8) -> DsmTrickMode
     }
 }
 
+#[tactic(auto, using(crate::proofs::Laws::trick_laws))]
 fn truncation_of(byte: u8) -> FrequencyTruncationCoefficientSelection
     ensures { truncation result ≡ truncation_bits byte }
 {
@@ -640,188 +670,95 @@ fn truncation_of(byte: u8) -> FrequencyTruncationCoefficientSelection
     }
 }
 
-// A byte that its flag says is there.
-#[derive(Clone, Copy)]
-pub enum FieldRead {
-    Done(u8),
-    FieldNotPresent,
-    Refused(Refusal),
-}
-
 // The trick mode byte as it stands. Added: the original gives the control number where the table has data bits.
-pub fn raw_trick_mode(buf: &[u8]) -> FieldRead
-    ensures { given_field result ≡ read_raw_trick buf.now }
+pub fn raw_trick_mode(buf: &[u8]) -> Result<u8, Refusal>
+    ensures { given number_values result ≡ read_raw_trick buf.now }
 {
-    match from_bytes(buf) {
-        ContentsRead::Refused(r) => FieldRead::Refused(r),
-        ContentsRead::Done => {
-            if dsm_trick_mode_flag(buf) {
-                let at = es_rate_end(buf);
-                return FieldRead::Done(buf[at]);
-            }
-            FieldRead::FieldNotPresent
-        }
-    }
+    PesParsedContents::from_bytes(buf)?.raw_trick_mode()
 }
 
-#[derive(Clone, Copy)]
-pub enum CopyInfoRead {
-    Done(u8),
-    FieldNotPresent,
-    MarkerBitNotSet { bit_number: u8 },
-    Refused(Refusal),
-}
-
-pub fn additional_copy_info(buf: &[u8]) -> CopyInfoRead
-    ensures { given_copy_info result ≡ read_copy_info buf.now }
+pub fn additional_copy_info(buf: &[u8]) -> Result<u8, Refusal>
+    ensures { given number_values result ≡ read_copy_info buf.now }
 {
-    match from_bytes(buf) {
-        ContentsRead::Refused(r) => CopyInfoRead::Refused(r),
-        ContentsRead::Done => {
-            if additional_copy_info_flag(buf) {
-                let at = dsm_trick_mode_end(buf);
-                return copy_info_of(buf[at]);
-            }
-            CopyInfoRead::FieldNotPresent
-        }
-    }
+    PesParsedContents::from_bytes(buf)?.additional_copy_info()
 }
 
 // The additional copy info in its byte, or that its marker is clear.
-fn copy_info_of(byte: u8) -> CopyInfoRead
-    ensures { given_copy_info result ≡ copy_info_of (byte ∷ []) }
+#[tactic(auto, using(crate::proofs::Laws::byte_laws))]
+fn copy_info_of(byte: u8) -> Result<u8, Refusal>
+    ensures { given number_values result ≡ copy_info_of (byte ∷ []) }
 {
     if byte / 128 == 0 {
-        return CopyInfoRead::MarkerBitNotSet { bit_number: 0 };
+        return Err(Refusal::MarkerBitNotSet { bit_number: 0 });
     }
-    CopyInfoRead::Done(byte % 128)
-}
-
-#[derive(Clone, Copy)]
-pub enum CrcRead {
-    Done(u16),
-    FieldNotPresent,
-    Refused(Refusal),
+    Ok(byte % 128)
 }
 
 // The checksum of the packet before; nothing is checked by it.
-pub fn previous_pes_packet_crc(buf: &[u8]) -> CrcRead
-    ensures { given_crc result ≡ read_crc buf.now }
+pub fn previous_pes_packet_crc(buf: &[u8]) -> Result<u16, Refusal>
+    ensures { given number_values result ≡ read_crc buf.now }
 {
-    match from_bytes(buf) {
-        ContentsRead::Refused(r) => CrcRead::Refused(r),
-        ContentsRead::Done => {
-            if pes_crc_flag(buf) {
-                let at = additional_copy_info_end(buf);
-                return CrcRead::Done(crc_of(buf[at], buf[at + 1]));
-            }
-            CrcRead::FieldNotPresent
-        }
-    }
+    PesParsedContents::from_bytes(buf)?.previous_pes_packet_crc()
 }
 
 // The checksum in its two bytes.
+#[tactic(auto, using(crate::proofs::Laws::byte_laws))]
 pub fn crc_of(a0: u8, a1: u8) -> u16
     ensures { result ≡ field (a0 ∷ a1 ∷ []) 0 16 }
 {
     (wide(a0) * 256 + wide(a1)) as u16
 }
 
-// Where a part of the contents lies.
-#[derive(Clone, Copy)]
-pub enum PartRead {
-    Done { place: usize, length: usize },
-    FieldNotPresent,
-    Refused(Refusal),
-}
-
 // Where the PES extension lies: from the end of the flagged fields to the end of the header data.
-pub fn pes_extension_at(buf: &[u8]) -> PartRead
-    ensures { given_part result ≡ read_pes_extension buf.now }
+pub fn pes_extension_at(buf: &[u8]) -> Result<Extent, Refusal>
+    ensures { given extent_values result ≡ read_pes_extension buf.now }
 {
-    match from_bytes(buf) {
-        ContentsRead::Refused(r) => PartRead::Refused(r),
-        ContentsRead::Done => {
-            if pes_extension_flag(buf) {
-                let place = pes_crc_end(buf);
-                let end = header_end(buf);
-                return PartRead::Done {
-                    place,
-                    length: end - place,
-                };
-            }
-            PartRead::FieldNotPresent
-        }
-    }
+    PesParsedContents::from_bytes(buf)?.pes_extension_at()
 }
 
 // The PES extension; what it holds is not read.
+#[tactic(auto, using(crate::proofs::Laws::part_laws))]
 pub fn pes_extension(buf: &[u8]) -> &[u8]
     ensures { result.now ≡ part_of (read_pes_extension buf.now) buf.now }
 {
-    let PartRead::Done { place, length } = pes_extension_at(buf) else {
+    let Ok(extension) = pes_extension_at(buf) else {
         return &buf[0..0];
     };
-    part(buf, place, length)
+    extension.of(buf)
 }
 
 // Where the payload lies that came in the same packet as the header.
-pub fn payload_at(buf: &[u8]) -> PartRead
-    ensures { given_part result ≡ read_parsed_payload buf.now }
+pub fn payload_at(buf: &[u8]) -> Result<Extent, Refusal>
+    ensures { given extent_values result ≡ read_parsed_payload buf.now }
 {
-    match from_bytes(buf) {
-        ContentsRead::Refused(r) => PartRead::Refused(r),
-        ContentsRead::Done => {
-            let place = header_end(buf);
-            PartRead::Done {
-                place,
-                length: buf.len() - place,
-            }
-        }
-    }
+    Ok(PesParsedContents::from_bytes(buf)?.payload_at())
 }
 
 // The payload that came in the same packet as the header.
+#[tactic(auto, using(crate::proofs::Laws::part_laws))]
 pub fn payload(buf: &[u8]) -> &[u8]
     ensures { result.now ≡ part_of (read_parsed_payload buf.now) buf.now }
 {
-    let PartRead::Done { place, length } = payload_at(buf) else {
+    let Ok(payload) = payload_at(buf) else {
         return &buf[0..0];
     };
-    part(buf, place, length)
-}
-
-// Where each flagged field begins, or would; where an extension begins, after them; and where the payload begins.
-#[derive(Clone, Copy)]
-pub enum PlacesRead {
-    Done {
-        escr: usize,
-        es_rate: usize,
-        dsm_trick_mode: usize,
-        additional_copy_info: usize,
-        previous_pes_packet_crc: usize,
-        pes_extension: usize,
-        payload: usize,
-    },
-    Refused(Refusal),
+    payload.of(buf)
 }
 
 // All places at once. Added: the original keeps them to itself.
-pub fn places(buf: &[u8]) -> PlacesRead
-    ensures { given_places result ≡ read_places buf.now }
+pub fn places(buf: &[u8]) -> Result<Places, Refusal>
+    ensures { given places_values result ≡ read_places buf.now }
 {
-    match from_bytes(buf) {
-        ContentsRead::Refused(r) => PlacesRead::Refused(r),
-        ContentsRead::Done => placed(&FIELD_ENDS, buf[1], header_end(buf)),
-    }
+    Ok(PesParsedContents::from_bytes(buf)?.places())
 }
 
 // Six entries of one table, which is laid on the stack once.
-fn placed(ends: &[u8; 256], flags: u8, payload: usize) -> PlacesRead
+#[tactic(auto, using(crate::proofs::Laws::fixed_laws))]
+fn placed(ends: &[u8; 256], flags: u8, payload: usize) -> Places
     requires { FieldEnds ends.now }
-    ensures { given_places result ≡ answer done (places_of (flag_byte flags) ++ payload ∷ []) }
+    ensures { places_values result ≡ places_of (flag_byte flags) ++ payload ∷ [] }
 {
-    PlacesRead::Done {
+    Places {
         escr: entry(ends, flags / 64 * 64),
         es_rate: entry(ends, flags / 32 * 32),
         dsm_trick_mode: entry(ends, flags / 16 * 16),

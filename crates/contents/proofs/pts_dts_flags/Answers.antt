@@ -1,8 +1,0 @@
-use Rattle.contents.proofs.Laws.{contents-laws, flag-answers}
-use Rattle.contents.proofs.pts_dts_flags.Goals as goal
-
-pub bounds-buf-1 : goal.bounds-buf-1
-bounds-buf-1 c = search contents-laws
-
-pub returns : goal.returns
-returns c = search flag-answers
