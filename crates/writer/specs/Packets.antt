@@ -1,16 +1,14 @@
 -- The packets of a unit, by the tables of the standard: the header, then header and payload cut into parts of 184 bytes.
-use Rattle.std.specs.Prelude.{◌≡◌, List, [], ◌∷◌, ◌++◌, ℕ, zero, suc, ◌+◌, ◌-◌, ◌%◌, ◌≤◌, length, take, drop, replicate, ltb}
-use Rattle.bits.specs.Answer.{pick, truth, placed_at}
+use Rattle.std.specs.Prelude.{Option, None, Some, List, [], ◌∷◌, ◌++◌, ℕ, zero, suc, ◌+◌, ◌-◌, ◌%◌, length, take, drop, replicate, ltb}
+use Rattle.bits.specs.Answer.{pick, truth}
 use Rattle.bits.specs.Pack.{Part, part, joined, bytes_of}
 use Rattle.timestamp.specs.Stamp.{stamp_bytes}
 use Rattle.contents.specs.Layout.{escr_bytes, es_rate_bytes, trick_bytes, copy_info_bytes, crc_bytes}
 use Rattle.writer.specs.declared.Route.{Route}
 use Rattle.writer.specs.declared.Times.{Times}
 use Rattle.writer.specs.declared.Times.TheVariants.{Untimed, Pts, Both}
-use Rattle.writer.specs.declared.Escr.{Escr}
 use Rattle.writer.specs.declared.Unit.{Unit}
-use Rattle.writer.specs.Unit.{Field, absent, holds, rate_field, byte_field, crc_field, times_flags, escr_flag, field_flag, data_of}
-use Rattle.writer.specs.Unit.{stated_length, count_of}
+use Rattle.writer.specs.Unit.{times_flags, field_flag, data_of, stated_length, count_of}
 
 -- ---- the header (clause 2.4.3.6, the PES packet table)
 
@@ -20,9 +18,8 @@ head_table u n =
     part 24 1 ∷ part 8 u.id ∷ part 16 (stated_length u n)
     ∷ part 2 2 ∷ part 2 0 ∷ part 1 (truth u.priority) ∷ part 1 (truth u.alignment)
     ∷ part 1 (truth u.copyright) ∷ part 1 (truth u.original)
-    ∷ part 2 (times_flags u.times) ∷ part 1 (escr_flag u.escr)
-    ∷ part 1 (field_flag (rate_field u.rate)) ∷ part 1 (field_flag (byte_field u.trick)) ∷ part 1 (field_flag (byte_field u.copy))
-    ∷ part 1 (field_flag (crc_field u.crc)) ∷ part 1 0
+    ∷ part 2 (times_flags u.times) ∷ part 1 (field_flag u.escr) ∷ part 1 (field_flag u.rate)
+    ∷ part 1 (field_flag u.trick) ∷ part 1 (field_flag u.copy) ∷ part 1 (field_flag u.crc) ∷ part 1 0
     ∷ part 8 (data_of u) ∷ []
 
 -- prefix 0010 of a PTS alone, 0011 and 0001 of a pair
@@ -31,20 +28,18 @@ times_image Untimed = []
 times_image (Pts p) = stamp_bytes 2 p
 times_image (Both p d) = stamp_bytes 3 p ++ stamp_bytes 1 d
 
--- the flagged fields by their rows (contents' Layout)
-unfoldable pub escr_image : Escr → List ℕ
-escr_image Escr.Absent = []
-escr_image (Escr.Present b e) = escr_bytes b e
+-- the flagged fields by their rows (contents' Layout): the bytes of a field where it is there
+unfoldable pub image : {A : Type 0} → (A → List ℕ) → Option A → List ℕ
+image bytes None = []
+image bytes (Some v) = bytes v
 
--- its bytes, where a field of one number is there
-unfoldable pub image : (ℕ → List ℕ) → Field → List ℕ
-image bytes absent = []
-image bytes (holds v) = bytes v
+unfoldable pub escr_image : Option (ℕ × ℕ) → List ℕ
+escr_image e = image (λ v. escr_bytes v.0 v.1) e
 
 unfoldable pub fields_image : Unit → List ℕ
 fields_image u =
-    times_image u.times ++ (escr_image u.escr ++ (image es_rate_bytes (rate_field u.rate)
-    ++ (image trick_bytes (byte_field u.trick) ++ (image copy_info_bytes (byte_field u.copy) ++ image crc_bytes (crc_field u.crc)))))
+    times_image u.times ++ (escr_image u.escr ++ (image es_rate_bytes u.rate
+    ++ (image trick_bytes u.trick ++ (image copy_info_bytes u.copy ++ image crc_bytes u.crc))))
 
 unfoldable pub header_image : Unit → ℕ → List ℕ
 header_image u n = bytes_of 9 (joined (head_table u n)) ++ fields_image u
@@ -74,11 +69,3 @@ carried (suc k) start pid c xs = carrier start pid c (take 184 xs) ∷ carried k
 -- THE PACKETS OF A UNIT with its payload
 unfoldable pub packets_of : Route → Unit → List ℕ → List (List ℕ)
 packets_of r u payload = carried (count_of u (length payload)) 1 r.pid r.counter (header_image u (length payload) ++ payload)
-
--- ---- cited by private functions alone
-
--- bytes placed from a place on, and the place after them; there are so many at most
-pub record Placed (before : List ℕ) (p : ℕ) (bytes : List ℕ) (most r : ℕ) (after : List ℕ) : Type 0 where
-  pub next : r ≡ p + length bytes
-  pub few : length bytes ≤ most
-  pub whole : after ≡ placed_at before p bytes

@@ -1,30 +1,9 @@
 -- A unit to write: how long its header is, and how many packets it takes.
-use Rattle.std.specs.Prelude.{ℕ, ◌+◌, ◌*◌, ◌/◌}
+use Rattle.std.specs.Prelude.{Option, None, Some, ℕ, ◌+◌, ◌*◌, ◌/◌}
 use Rattle.bits.specs.Answer.{pick}
 use Rattle.writer.specs.declared.Times.{Times}
 use Rattle.writer.specs.declared.Times.TheVariants.{Untimed, Pts, Both}
-use Rattle.writer.specs.declared.Escr.{Escr}
-use Rattle.writer.specs.declared.Rate.{Rate}
-use Rattle.writer.specs.declared.Byte.{Byte}
-use Rattle.writer.specs.declared.Crc.{Crc}
 use Rattle.writer.specs.declared.Unit.{Unit}
-
--- a field of one number, or none
-pub data Field : Type 0 where
-  absent : Field
-  holds : ℕ → Field
-
-abbrev pub rate_field : Rate → Field
-rate_field Rate.Absent = absent
-rate_field (Rate.Present v) = holds v
-
-abbrev pub byte_field : Byte → Field
-byte_field Byte.Absent = absent
-byte_field (Byte.Present v) = holds v
-
-abbrev pub crc_field : Crc → Field
-crc_field Crc.Absent = absent
-crc_field (Crc.Present v) = holds v
 
 -- ---- the flags (clause 2.4.3.6, the PES packet table)
 
@@ -34,13 +13,10 @@ times_flags Untimed = 0
 times_flags (Pts p) = 2
 times_flags (Both p d) = 3
 
-abbrev pub escr_flag : Escr → ℕ
-escr_flag Escr.Absent = 0
-escr_flag (Escr.Present b e) = 1
-
-abbrev pub field_flag : Field → ℕ
-field_flag absent = 0
-field_flag (holds v) = 1
+-- that of any other field: whether it is there
+abbrev pub field_flag : {A : Type 0} → Option A → ℕ
+field_flag None = 0
+field_flag (Some v) = 1
 
 -- ---- the sizes
 
@@ -52,8 +28,7 @@ times_bytes (Both p d) = 10
 -- d, the data bytes of a header: its fields, and no stuffing
 unfoldable pub data_of : Unit → ℕ
 data_of u =
-    times_bytes u.times + 6 * escr_flag u.escr + 3 * field_flag (rate_field u.rate) + field_flag (byte_field u.trick)
-    + field_flag (byte_field u.copy) + 2 * field_flag (crc_field u.crc)
+    times_bytes u.times + 6 * field_flag u.escr + 3 * field_flag u.rate + field_flag u.trick + field_flag u.copy + 2 * field_flag u.crc
 
 -- PES_packet_length, of a unit with n bytes of payload: the bytes that follow it, or 0 for unbounded
 unfoldable pub stated_length : Unit → ℕ → ℕ

@@ -1,5 +1,5 @@
 -- What the writer answers, and what it leaves in its output.
-use Rattle.std.specs.Prelude.{Bool, true, false, not, List, [], ◌∷◌, ◌++◌, ℕ, ◌-◌, ◌*◌, ◌/◌, ◌^◌, length, drop, eqb, leb, ltb}
+use Rattle.std.specs.Prelude.{Option, None, Some, Bool, true, false, not, List, [], ◌∷◌, ◌++◌, ℕ, ◌-◌, ◌*◌, ◌/◌, ◌^◌, length, drop, eqb, leb, ltb}
 use Rattle.bits.specs.Answer.{Answer, answer, pick, Check, ◌gives◌, unless}
 use Rattle.bits.specs.Numbers.{done, bad_field, too_long, no_room}
 use Rattle.bits.specs.Pack.{flat}
@@ -7,17 +7,9 @@ use Rattle.pes.specs.Stream.{parsed_id}
 use Rattle.writer.specs.declared.Route.{Route}
 use Rattle.writer.specs.declared.Times.{Times}
 use Rattle.writer.specs.declared.Times.TheVariants.{Untimed, Pts, Both}
-use Rattle.writer.specs.declared.Escr.{Escr}
 use Rattle.writer.specs.declared.Unit.{Unit}
-use Rattle.writer.specs.declared.Written.{Written}
-use Rattle.writer.specs.Unit.{Field, absent, holds, rate_field, byte_field, stated_length, count_of}
+use Rattle.writer.specs.Unit.{stated_length, count_of}
 use Rattle.writer.specs.Packets.{packets_of}
-
-abbrev pub given_written : Written → Answer
-given_written (Written.Done n) = answer done (n ∷ [])
-given_written Written.BadField = answer bad_field []
-given_written Written.TooLong = answer too_long []
-given_written Written.NoRoom = answer no_room []
 
 -- every test of a list holds
 abbrev pub all_of : List Bool → Bool
@@ -33,13 +25,13 @@ times_fit Untimed = true
 times_fit (Pts p) = ltb p (2 ^ 33)
 times_fit (Both p d) = pick (ltb p (2 ^ 33)) (ltb d (2 ^ 33)) false
 
-abbrev pub escr_fits : Escr → Bool
-escr_fits Escr.Absent = true
-escr_fits (Escr.Present b e) = pick (ltb b (2 ^ 33)) (leb e 299) false
+abbrev pub escr_fits : Option (ℕ × ℕ) → Bool
+escr_fits None = true
+escr_fits (Some e) = pick (ltb e.0 (2 ^ 33)) (leb e.1 299) false
 
-abbrev pub fits : ℕ → ℕ → Field → Bool
-fits a z absent = true
-fits a z (holds v) = within a z v
+abbrev pub fits : ℕ → ℕ → Option ℕ → Bool
+fits a z None = true
+fits a z (Some v) = within a z v
 
 -- the field list: 17 where a test fails. That of the route ..
 unfoldable pub route_tests : Route → List Bool
@@ -53,8 +45,8 @@ unit_tests u =
     ∷ pick u.bounded true (within 0xE0 0xEF u.id)
     ∷ times_fit u.times
     ∷ escr_fits u.escr
-    ∷ fits 1 (2 ^ 22 - 1) (rate_field u.rate)
-    ∷ fits 0 127 (byte_field u.copy)
+    ∷ fits 1 (2 ^ 22 - 1) u.rate
+    ∷ fits 0 127 u.copy
     ∷ []
 
 -- the size list: 18 where a test fails, with n bytes of payload

@@ -1,14 +1,17 @@
--- The loop's invariant: what the output comes to, from what is written and what is left, is the same at each turn.
+-- What the output comes to, from what is written and what is left, is the same at each turn.
 use mathlib.Core.Path.{◌≡◌}
-use Prim.Native.Nat.{◌+◌, ◌*◌, ◌≤◌, ◌<◌}
-use lib.ListN.{length}
+use mathlib.Core.List.{◌++◌}
+use Prim.Native.Nat.{◌-◌, ◌*◌}
+use lib.ListN.{length, drop}
+use Rattle.bits.specs.Pack.{flat}
+use Rattle.writer.specs.Unit.{count_for}
+use Rattle.writer.specs.Packets.{carried}
 use Rattle.writer.proofs.Laws.{rest}
 use Rattle.writer.proofs.put_rest.Given as goal
 
-abbrev pub invariant-loop-left : goal.invariant-loop-left
-invariant-loop-left l = (1 ≤ l.left) × (l.at + 184 * l.left < length l.body + 184) × (length l.body ≤ l.at + 184 * l.left) × (l.next ≤ 15)
-    × (l.place + 188 * l.left ≤ length l.out) × (length l.out ≡ length l.initial.out)
-    × (rest l.pid l.body l.count 0 0 l.counter l.initial.out ≡ rest l.pid l.body l.left l.at l.place l.next l.out)
-
-abbrev pub decreases-loop-left : goal.decreases-loop-left
-decreases-loop-left l = l.left
+abbrev pub invariant-loop-part : goal.invariant-loop-part
+invariant-loop-part l =
+    let count = count_for (length l.body) in
+    (l.place ≡ 188 * l.part-index)
+    × (flat (carried count 0 l.fn.tag.pid l.fn.tag.counter l.body) ++ drop (188 * count) l.fn.out
+    ≡ rest (count - l.part-index) l.tag.pid l.tag.counter (drop (184 * l.part-index) l.body) l.place l.out)

@@ -1,6 +1,6 @@
 use native.Mathlib.Omega.{arith}
-use Rattle.writer.proofs.Laws.{rate-written}
+use Rattle.bits.proofs.Packs.{written}
 use Rattle.writer.proofs.rate_bytes.Goals as goal
 
 pub returns : goal.returns
-returns c = rate-written _ _ (omega arith)
+returns c = rw c.to_be_bytes.ensures (written _ _ (omega arith) (omega arith))

@@ -1,7 +1,8 @@
-use mathlib.Core.Path.{refl}
-use borrow.Author.Rules.{rules}
-use Rattle.writer.proofs.Laws.{stamp-written}
+use native.Mathlib.Omega.{arith}
+use Rattle.bits.proofs.Packs.{written}
+use Rattle.timestamp.specs.Stamp.{stamp_bytes}
 use Rattle.writer.proofs.stamp.Goals as goal
 
 pub returns : goal.returns
-returns c = stamp-written _ _ _ _ _ _ refl refl (search rules) (search rules)
+unfolding stamp_bytes
+returns c = rw c.to_be_bytes.ensures (written _ _ (omega arith) (omega arith))

@@ -1,0 +1,6 @@
+use native.Mathlib.Omega.{arith}
+use Rattle.bits.proofs.Packs.{written}
+use Rattle.writer.proofs.crc_bytes.Goals as goal
+
+pub returns : goal.returns
+returns c = rw c.to_be_bytes.ensures (written _ _ (omega arith) (omega arith))
