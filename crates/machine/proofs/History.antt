@@ -7,6 +7,7 @@ use mathlib.Core.List.{List, [], ◌∷◌, ◌++◌}
 use Prim.Native.Nat.{ℕ, suc}
 use lib.Dec.{eqb}
 use borrow.Author.Tests.{eq-eqb}
+use Rattle.std.specs.Prelude.{Some, None}
 use Rattle.bits.specs.Answer.{pick}
 use Rattle.bits.proofs.Bools.{false_true}
 use Rattle.control.specs.Control.{follows, compare}
@@ -17,7 +18,6 @@ use Rattle.event_log.specs.Entry.{start_stream}
 use Rattle.machine.specs.declared.Mode.{Mode}
 use Rattle.machine.specs.declared.Mode.TheVariants.{Crate, Standard}
 use Rattle.machine.specs.declared.Phase.{Phase}
-use Rattle.machine.specs.declared.Last.TheVariants.{Nothing, At}
 use Rattle.machine.specs.declared.Repeat.{Repeat}
 use Rattle.machine.specs.declared.Repeat.TheVariants.{Barred, Open, Spent}
 use Rattle.machine.specs.declared.Continuity.{Continuity}
@@ -46,11 +46,11 @@ again-is s p = go (continuity s p)
     go Repeats = refl
     go Breaks = refl
 
-pub last-is : (s : State) (p : List ℕ) → (next s p).last ≡ At (as_counter (counter_field p))
+pub last-is : (s : State) (p : List ℕ) → (next s p).last ≡ Some (as_counter (counter_field p))
 unfolding next
 last-is s p = go (continuity s p) refl
   where
-    go : (c : Continuity) → continuity s p ≡ c → last_by c s.last p ≡ At (as_counter (counter_field p))
+    go : (c : Continuity) → continuity s p ≡ c → last_by c s.last p ≡ Some (as_counter (counter_field p))
     go GoesOn h = refl
     go Repeats h = repeat-last s.mode s.last s.again p h
     go Breaks h = refl
@@ -75,7 +75,7 @@ alike c f false false true h = refl
 alike c true false false false h = refl
 alike c false false false false h = refl
 
-by_two : (s : State) (p q : List ℕ) (c : Continuity) → s.mode ≡ Standard → s.last ≡ At (as_counter (counter_field p)) → s.again ≡ keeps c (payload_flag p)
+by_two : (s : State) (p q : List ℕ) (c : Continuity) → s.mode ≡ Standard → s.last ≡ Some (as_counter (counter_field p)) → s.again ≡ keeps c (payload_flag p)
     → continuity s q
     ≡ pick (discontinuity q) GoesOn (pick (in_order p q) GoesOn (pick (copies p q) (pick (is_dropped c) Breaks Repeats) Breaks))
 unfolding continuity_by compare
@@ -101,7 +101,7 @@ mode-at (p ∷ ps) = mode-stays (state_at ps) p ∙ mode-at ps
 -- CONTINUITY IN THE STANDARD MODE, from the first packet of a stream on, IS THAT OF THE PACKETS ALONE
 pub standard-is : (ps : List (List ℕ)) (q : List ℕ) → continuity (state_at ps) q ≡ standardly (q ∷ ps)
 unfolding state_at standardly
-standard-is [] q = on-first Standard Nothing Barred q refl
+standard-is [] q = on-first Standard None Barred q refl
 standard-is (p ∷ ps) q =
     after_one (state_at ps) p q (mode-at ps)
     ∙ ap (λ (c : Continuity). pick (discontinuity q) GoesOn (pick (in_order p q) GoesOn (pick (copies p q) (pick (is_dropped c) Breaks Repeats) Breaks))) (standard-is ps p)
@@ -142,7 +142,7 @@ same-judged r f false false true h = refl
 same-judged r f false false false h = refl
 
 module _ (p q : List ℕ) (d : discontinuity q ≡ false) (h : copies p q ≡ false) where
-  same-continuity : (s t : State) → s.mode ≡ Crate → t.mode ≡ Standard → s.last ≡ At (as_counter (counter_field p)) → t.last ≡ At (as_counter (counter_field p))
+  same-continuity : (s t : State) → s.mode ≡ Crate → t.mode ≡ Standard → s.last ≡ Some (as_counter (counter_field p)) → t.last ≡ Some (as_counter (counter_field p))
       → t.again ≡ pick (payload_flag p) Open Barred → continuity s q ≡ continuity t q
   unfolding continuity_by compare
   same-continuity s t m n k l r =
@@ -224,13 +224,13 @@ agree-from (q ∷ ps) p i s t m n f e w =
     (agree-from ps q (suc i) (next s p) (next t p) (mode-stays s p ∙ m) (mode-stays t p ∙ n) (same-phase s t p f e)
     (alike_next s t p q m n e (clear q ps w.2) w.1) w.2)
 
-first_alike : (s t : State) (p : List ℕ) → s.last ≡ Nothing → t.last ≡ Nothing → continuity s p ≡ continuity t p
+first_alike : (s t : State) (p : List ℕ) → s.last ≡ None → t.last ≡ None → continuity s p ≡ continuity t p
 first_alike s t p k l = on-first s.mode s.last s.again p k ∙ sym (on-first t.mode t.last t.again p l)
 
 -- BOTH MODES GIVE THE SAME EVENTS, BUT FOR StartStream, over packets with no repeat and no discontinuity bit, from states with the same phase
 -- and no last counter
 pub modes_agree : (ps : List (List ℕ)) (i : ℕ) (s t : State) → s.mode ≡ Crate → t.mode ≡ Standard → s.phase ≡ t.phase
-    → s.last ≡ Nothing → t.last ≡ Nothing → NoRepeats ps → others (run i s ps) ≡ others (run i t ps)
+    → s.last ≡ None → t.last ≡ None → NoRepeats ps → others (run i s ps) ≡ others (run i t ps)
 unfolding run
 modes_agree [] i s t m n f k l w = refl
 modes_agree (p ∷ ps) i s t m n f k l w = agree-from ps p i s t m n f (first_alike s t p k l) w

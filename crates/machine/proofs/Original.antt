@@ -1,6 +1,6 @@
 -- The crate's mode is the machine of the original, whatever may be repeated and whether the stream was announced or not.
 -- Assumes nothing.
-use mathlib.Core.Path.{◌≡◌, refl, sym, ap, ap₂, ◌∙◌}
+use mathlib.Core.Path.{◌≡◌, refl, ap, ap₂, ◌∙◌}
 use mathlib.Core.Bool.{Bool, true, false, ◌||◌}
 use mathlib.Core.List.{List, [], ◌∷◌, ◌++◌}
 use Prim.Native.Nat.{ℕ, suc}
@@ -10,14 +10,13 @@ use Rattle.event_log.specs.declared.Event.{Event}
 use Rattle.machine.specs.declared.Mode.TheVariants.{Crate}
 use Rattle.machine.specs.declared.Phase.{Phase}
 use Rattle.machine.specs.declared.Phase.TheVariants.{Begin, Started, IgnoreRest}
-use Rattle.machine.specs.declared.Last.{Last}
 use Rattle.machine.specs.declared.Repeat.{Repeat}
 use Rattle.machine.specs.declared.Repeat.TheVariants.{Open, Barred}
 use Rattle.machine.specs.declared.Continuity.TheVariants.{GoesOn, Breaks}
-use Rattle.machine.specs.Events.{State, state, continuity, is_begin, due, announces, announcement, ended, begun, continued}
+use Rattle.machine.specs.Events.{Last, State, state, continuity, is_begin, due, announces, announcement, ended, begun, continued}
 use Rattle.machine.specs.Events.{events_by, events_of, phase_by, last_by, again_by, next, run}
 use Rattle.machine.specs.Original.{continuous, broken, settled, opened, original_rest, original_events, original_phase, original_last, original_run}
-use Rattle.machine.proofs.Counters.{in_order_on, judged-crate}
+use Rattle.machine.proofs.Counters.{in_order_on, crate_breaks}
 
 module _ (ph : Phase) (l : Last) (r : Repeat) (a : Bool) (p : List ℕ) where
   abbrev here : State
@@ -29,7 +28,7 @@ module _ (ph : Phase) (l : Last) (r : Repeat) (a : Bool) (p : List ℕ) where
     where
       go : (b : Bool) → continuous l p ≡ b → continuity here p ≡ pick b GoesOn Breaks
       go true h = in_order_on Crate l r p h
-      go false h = sym (judged-crate Crate l r p (continuous l p) refl h refl)
+      go false h = crate_breaks l r p h
 
   by-test : (t : Bool) (i : ℕ) → announcement (due Crate (pick t GoesOn Breaks) ph a (start_flag p)) i ++ events_by (pick t GoesOn Breaks) i ph p
       ≡ broken t i ++ original_rest (settled t ph) i p

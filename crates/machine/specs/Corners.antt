@@ -1,9 +1,8 @@
 -- Corners of continuity and of StartStream, as rows: from a state, these packets, the continuity of each and the kinds of its events.
-use Rattle.std.specs.Prelude.{◌≡◌, true, false, List, [], ◌∷◌, map, ℕ, suc, ◌+◌, replicate}
+use Rattle.std.specs.Prelude.{◌≡◌, true, false, List, [], ◌∷◌, map, ℕ, suc, ◌+◌, replicate, Some, None}
 use Rattle.event_log.specs.declared.Event.{Event}
 use Rattle.machine.specs.declared.Mode.TheVariants.{Crate, Standard}
 use Rattle.machine.specs.declared.Phase.TheVariants.{Begin, Started, IgnoreRest}
-use Rattle.machine.specs.declared.Last.TheVariants.{Nothing, At}
 use Rattle.machine.specs.declared.Repeat.TheVariants.{Barred, Open, Spent}
 use Rattle.machine.specs.declared.Continuity.{Continuity}
 use Rattle.machine.specs.declared.Continuity.TheVariants.{GoesOn, Repeats, Breaks}
@@ -78,17 +77,17 @@ corners =
     ∷ corner std (P 5 ∷ S 5 ∷ S 5 ∷ []) (GoesOn ∷ Repeats ∷ Breaks ∷ []) ([] ∷ [] ∷ (1 ∷ 5 ∷ 2 ∷ []) ∷ [])
     ∷ corner std (P 5 ∷ P 9 ∷ P 11 ∷ S 12 ∷ []) (GoesOn ∷ Breaks ∷ Breaks ∷ GoesOn ∷ []) ([] ∷ (1 ∷ 5 ∷ []) ∷ (5 ∷ []) ∷ (2 ∷ []) ∷ [])
     ∷ corner std (S 5 ∷ P 9 ∷ S 11 ∷ []) (GoesOn ∷ Breaks ∷ Breaks ∷ []) ((1 ∷ 2 ∷ []) ∷ (5 ∷ []) ∷ (5 ∷ 2 ∷ []) ∷ [])
-    ∷ corner (state Standard Started Nothing Open true) (P 5 ∷ []) (GoesOn ∷ []) ((3 ∷ []) ∷ [])
-    ∷ corner (state Standard Started Nothing Open false) (P 5 ∷ S 6 ∷ S 7 ∷ []) (GoesOn ∷ GoesOn ∷ GoesOn ∷ []) ((3 ∷ []) ∷ (1 ∷ 4 ∷ 2 ∷ []) ∷ (4 ∷ 2 ∷ []) ∷ [])
-    ∷ corner (state Standard Started (At (as_counter 5)) Open false) (S 9 ∷ []) (Breaks ∷ []) ((1 ∷ 5 ∷ 2 ∷ []) ∷ [])
-    ∷ corner (state Standard Begin Nothing Barred true) (S 5 ∷ S 6 ∷ []) (GoesOn ∷ GoesOn ∷ []) ((2 ∷ []) ∷ (4 ∷ 2 ∷ []) ∷ [])
-    ∷ corner (state Standard Begin (At (as_counter 5)) Open false) (S 5 ∷ S 5 ∷ []) (Repeats ∷ Breaks ∷ []) ([] ∷ (1 ∷ 5 ∷ 2 ∷ []) ∷ [])
-    ∷ corner (state Standard Begin (At (as_counter 5)) Open true) (S 5 ∷ S 5 ∷ []) (Repeats ∷ Breaks ∷ []) ([] ∷ (5 ∷ 2 ∷ []) ∷ [])
-    ∷ corner (state Standard IgnoreRest (At (as_counter 5)) Barred false) (P 5 ∷ []) (Breaks ∷ []) ((1 ∷ 5 ∷ []) ∷ [])
-    ∷ corner (state Standard IgnoreRest (At (as_counter 5)) Open false) (P 6 ∷ S 7 ∷ []) (GoesOn ∷ GoesOn ∷ []) ([] ∷ (1 ∷ 2 ∷ []) ∷ [])
-    ∷ corner (state Standard Started (At (as_counter 5)) Spent true) (P 5 ∷ P 5 ∷ []) (Breaks ∷ Repeats ∷ []) ((5 ∷ []) ∷ [] ∷ [])
+    ∷ corner (state Standard Started None Open true) (P 5 ∷ []) (GoesOn ∷ []) ((3 ∷ []) ∷ [])
+    ∷ corner (state Standard Started None Open false) (P 5 ∷ S 6 ∷ S 7 ∷ []) (GoesOn ∷ GoesOn ∷ GoesOn ∷ []) ((3 ∷ []) ∷ (1 ∷ 4 ∷ 2 ∷ []) ∷ (4 ∷ 2 ∷ []) ∷ [])
+    ∷ corner (state Standard Started (Some (as_counter 5)) Open false) (S 9 ∷ []) (Breaks ∷ []) ((1 ∷ 5 ∷ 2 ∷ []) ∷ [])
+    ∷ corner (state Standard Begin None Barred true) (S 5 ∷ S 6 ∷ []) (GoesOn ∷ GoesOn ∷ []) ((2 ∷ []) ∷ (4 ∷ 2 ∷ []) ∷ [])
+    ∷ corner (state Standard Begin (Some (as_counter 5)) Open false) (S 5 ∷ S 5 ∷ []) (Repeats ∷ Breaks ∷ []) ([] ∷ (1 ∷ 5 ∷ 2 ∷ []) ∷ [])
+    ∷ corner (state Standard Begin (Some (as_counter 5)) Open true) (S 5 ∷ S 5 ∷ []) (Repeats ∷ Breaks ∷ []) ([] ∷ (5 ∷ 2 ∷ []) ∷ [])
+    ∷ corner (state Standard IgnoreRest (Some (as_counter 5)) Barred false) (P 5 ∷ []) (Breaks ∷ []) ((1 ∷ 5 ∷ []) ∷ [])
+    ∷ corner (state Standard IgnoreRest (Some (as_counter 5)) Open false) (P 6 ∷ S 7 ∷ []) (GoesOn ∷ GoesOn ∷ []) ([] ∷ (1 ∷ 2 ∷ []) ∷ [])
+    ∷ corner (state Standard Started (Some (as_counter 5)) Spent true) (P 5 ∷ P 5 ∷ []) (Breaks ∷ Repeats ∷ []) ((5 ∷ []) ∷ [] ∷ [])
     ∷ corner (first Crate) (P 5 ∷ P 5 ∷ S 6 ∷ D 9 ∷ []) (GoesOn ∷ Breaks ∷ GoesOn ∷ Breaks ∷ []) ([] ∷ (5 ∷ []) ∷ (2 ∷ []) ∷ (5 ∷ []) ∷ [])
-    ∷ corner (state Crate Begin (At (as_counter 5)) Open false) (P 5 ∷ []) (Breaks ∷ []) ((5 ∷ []) ∷ [])
-    ∷ corner (state Crate Begin Nothing Barred true) (S 5 ∷ []) (GoesOn ∷ []) ((1 ∷ 2 ∷ []) ∷ [])
-    ∷ corner (state Crate Started Nothing Barred false) (S 5 ∷ []) (GoesOn ∷ []) ((4 ∷ 2 ∷ []) ∷ [])
+    ∷ corner (state Crate Begin (Some (as_counter 5)) Open false) (P 5 ∷ []) (Breaks ∷ []) ((5 ∷ []) ∷ [])
+    ∷ corner (state Crate Begin None Barred true) (S 5 ∷ []) (GoesOn ∷ []) ((1 ∷ 2 ∷ []) ∷ [])
+    ∷ corner (state Crate Started None Barred false) (S 5 ∷ []) (GoesOn ∷ []) ((4 ∷ 2 ∷ []) ∷ [])
     ∷ []

@@ -1,6 +1,6 @@
 -- The standard mode's continuity by the packets alone, with no state: a second definition, for a theorem that both agree; and words for
 -- theorems about both modes. A history is the packets that were taken, the newest first.
-use Rattle.std.specs.Prelude.{◌≡◌, Bool, true, false, List, [], ◌∷◌, ℕ, suc, eqb}
+use Rattle.std.specs.Prelude.{◌≡◌, Bool, true, false, List, [], ◌∷◌, ℕ, suc, eqb, None}
 use Rattle.bits.specs.Answer.{pick}
 use Rattle.control.specs.Control.{follows}
 use Rattle.packet.specs.Packet.{start_flag, counter_field, payload_flag}
@@ -9,7 +9,6 @@ use Rattle.event_log.specs.Entry.{start_stream}
 use Rattle.machine.specs.declared.Mode.{Mode}
 use Rattle.machine.specs.declared.Mode.TheVariants.{Standard}
 use Rattle.machine.specs.declared.Phase.TheVariants.{Begin}
-use Rattle.machine.specs.declared.Last.TheVariants.{Nothing}
 use Rattle.machine.specs.declared.Repeat.TheVariants.{Barred}
 use Rattle.machine.specs.declared.Continuity.{Continuity}
 use Rattle.machine.specs.declared.Continuity.TheVariants.{GoesOn, Repeats, Breaks}
@@ -17,7 +16,7 @@ use Rattle.machine.specs.Events.{State, state, discontinuity, continuity, calls,
 
 -- before the first packet of a stream
 abbrev pub first : Mode → State
-first mo = state mo Begin Nothing Barred false
+first mo = state mo Begin None Barred false
 
 -- q after p: with the payload flag the counter follows, without it is equal
 abbrev pub in_order : List ℕ → List ℕ → Bool

@@ -1,5 +1,5 @@
 -- The machine of the original, which has no mode: a phase, and the last counter or none. For a theorem that the crate's mode is this one.
-use Rattle.std.specs.Prelude.{Bool, true, List, [], ◌∷◌, ◌++◌, ℕ, suc, eqb}
+use Rattle.std.specs.Prelude.{Bool, true, List, [], ◌∷◌, ◌++◌, ℕ, suc, eqb, Some, None}
 use Rattle.bits.specs.Answer.{pick}
 use Rattle.control.specs.Control.{follows}
 use Rattle.packet.specs.Packet.{start_flag, counter_field, payload_flag}
@@ -7,14 +7,12 @@ use Rattle.event_log.specs.declared.Event.{Event}
 use Rattle.event_log.specs.Entry.{start_stream, end_packet, continuity_error}
 use Rattle.machine.specs.declared.Phase.{Phase}
 use Rattle.machine.specs.declared.Phase.TheVariants.{Begin, Started, IgnoreRest}
-use Rattle.machine.specs.declared.Last.{Last}
-use Rattle.machine.specs.declared.Last.TheVariants.{Nothing, At}
-use Rattle.machine.specs.Events.{as_counter, event_alone, begun, continued}
+use Rattle.machine.specs.Events.{Last, as_counter, event_alone, begun, continued}
 
 -- with the payload flag the counter follows the last, without it is equal; none is always continuous
 unfoldable pub continuous : Last → List ℕ → Bool
-continuous Nothing p = true
-continuous (At c) p = pick (payload_flag p) (follows (counter_field p) c.val) (eqb (counter_field p) c.val)
+continuous None p = true
+continuous (Some c) p = pick (payload_flag p) (follows (counter_field p) c.val) (eqb (counter_field p) c.val)
 
 -- a break gives ContinuityError and sets IgnoreRest
 abbrev pub broken : Bool → ℕ → List Event
@@ -42,7 +40,7 @@ unfoldable pub original_phase : Phase → Last → List ℕ → Phase
 original_phase ph l p = pick (start_flag p) Started (settled (continuous l p) ph)
 
 abbrev pub original_last : List ℕ → Last
-original_last p = At (as_counter (counter_field p))
+original_last p = Some (as_counter (counter_field p))
 
 -- the events of a list of packets, of which the first is the i-th
 unfoldable pub original_run : ℕ → Phase → Last → List (List ℕ) → List Event

@@ -1,25 +1,18 @@
 -- A machine as the numbers that a host keeps, in this order: mode 0 Crate, 1 Standard; phase 0 Begin, 1 Started, 2 IgnoreRest; last counter
 -- 0 to 15, or 255 for none; repeat 0 Barred, 1 Open, 2 Spent; announced 0 no, 1 yes; packets taken; next free place of the log.
-use Rattle.std.specs.Prelude.{Bool, true, false, ◌||◌, List, [], ◌∷◌, ℕ, eqb, ltb, get_or}
+use Rattle.std.specs.Prelude.{Bool, true, false, ◌||◌, List, [], ◌∷◌, ℕ, eqb, ltb, get_or, Option, Some, None, Result, Ok, Err}
 use Rattle.bits.specs.Answer.{pick, first_of, truth}
 use Rattle.bits.specs.Numbers.{done}
+use Rattle.bits.specs.declared.refusal.Refusal.{Refusal}
+use Rattle.bits.specs.declared.refusal.Refusal.TheVariants.{OutOfRange}
 use Rattle.machine.specs.declared.Mode.{Mode}
 use Rattle.machine.specs.declared.Mode.TheVariants.{Crate, Standard}
 use Rattle.machine.specs.declared.Phase.{Phase}
 use Rattle.machine.specs.declared.Phase.TheVariants.{Begin, Started, IgnoreRest}
-use Rattle.machine.specs.declared.Last.{Last}
-use Rattle.machine.specs.declared.Last.TheVariants.{Nothing, At}
 use Rattle.machine.specs.declared.Repeat.{Repeat}
 use Rattle.machine.specs.declared.Repeat.TheVariants.{Barred, Open, Spent}
 use Rattle.machine.specs.declared.Machine.{Machine}
-use Rattle.machine.specs.declared.row.ModeRead.{ModeRead}
-use Rattle.machine.specs.declared.row.PhaseRead.{PhaseRead}
-use Rattle.machine.specs.declared.row.LastRead.{LastRead}
-use Rattle.machine.specs.declared.row.AgainRead.{AgainRead}
-use Rattle.machine.specs.declared.row.AnnouncedRead.{AnnouncedRead}
-use Rattle.machine.specs.declared.row.RowRead.{RowRead}
-use Rattle.machine.specs.declared.row.RowRead.TheVariants.{Is, Stray}
-use Rattle.machine.specs.Events.{as_counter}
+use Rattle.machine.specs.Events.{Last, as_counter}
 use Rattle.machine.specs.Step.{machine, not_taken, step_of, log_of}
 use Rattle.machine.specs.Run.{not_run, report_of, ran_log}
 
@@ -32,7 +25,7 @@ abbrev pub phase_of : ℕ → Phase
 phase_of n = pick (eqb n 0) Begin (pick (eqb n 1) Started IgnoreRest)
 
 abbrev pub last_of : ℕ → Last
-last_of n = pick (eqb n 255) Nothing (At (as_counter n))
+last_of n = pick (eqb n 255) None (Some (as_counter n))
 
 abbrev pub again_of : ℕ → Repeat
 again_of n = pick (eqb n 0) Barred (pick (eqb n 1) Open Spent)
@@ -47,8 +40,8 @@ phase_number Started = 1
 phase_number IgnoreRest = 2
 
 abbrev pub last_number : Last → ℕ
-last_number Nothing = 255
-last_number (At c) = c.val
+last_number None = 255
+last_number (Some c) = c.val
 
 abbrev pub again_number : Repeat → ℕ
 again_number Barred = 0
@@ -68,10 +61,10 @@ strays xs =
     || ltb 4_294_967_295 (get_or xs 5 0)
 
 -- THE MACHINE THAT A ROW STANDS FOR, if for one
-unfoldable pub machine_of : List ℕ → RowRead
+unfoldable pub machine_of : List ℕ → Option Machine
 machine_of xs =
-    pick (strays xs) Stray
-    (Is (machine (mode_of (get_or xs 0 0)) (phase_of (get_or xs 1 0)) (last_of (get_or xs 2 0)) (again_of (get_or xs 3 0)) (eqb (get_or xs 4 0) 1)
+    pick (strays xs) None
+    (Some (machine (mode_of (get_or xs 0 0)) (phase_of (get_or xs 1 0)) (last_of (get_or xs 2 0)) (again_of (get_or xs 3 0)) (eqb (get_or xs 4 0) 1)
     (get_or xs 5 0) (get_or xs 6 0)))
 
 -- THE ROW OF A MACHINE
@@ -90,9 +83,9 @@ abbrev pub row_step : ℕ → List ℕ → List ℕ → RowStep
 row_step n xs l = record { number = n; row = xs; log = l }
 
 -- a row that stands for nothing is 14 where a wrong state is; a refusal leaves the row as it was lent
-abbrev pub step_by : RowRead → List ℕ → List ℕ → List ℕ → RowStep
-step_by Stray xs p l = row_step (first_of (not_taken p true [])) xs l
-step_by (Is m) xs p l =
+abbrev pub step_by : Option Machine → List ℕ → List ℕ → List ℕ → RowStep
+step_by None xs p l = row_step (first_of (not_taken p true [])) xs l
+step_by (Some m) xs p l =
     row_step (step_of m p l).number (pick (eqb (step_of m p l).number done) (row_of (step_of m p l).machine) xs) (log_of m p l)
 
 unfoldable pub row_step_of : List ℕ → List ℕ → List ℕ → RowStep
@@ -111,9 +104,9 @@ abbrev pub row_run : ℕ → List ℕ → List ℕ → ℕ → ℕ → RowRun
 row_run n xs l t e = record { number = n; row = xs; log = l; taken = t; ended = e }
 
 -- a refusal leaves all as it was lent
-abbrev pub run_by : RowRead → List ℕ → List ℕ → List ℕ → ℕ → ℕ → RowRun
-run_by Stray xs bs l t e = row_run (first_of (not_run bs true)) xs l t e
-run_by (Is m) xs bs l t e =
+abbrev pub run_by : Option Machine → List ℕ → List ℕ → List ℕ → ℕ → ℕ → RowRun
+run_by None xs bs l t e = row_run (first_of (not_run bs true)) xs l t e
+run_by (Some m) xs bs l t e =
     pick (eqb (report_of m bs l).number done)
     (row_run done (row_of (report_of m bs l).machine) (ran_log m bs l) (report_of m bs l).packets (report_of m bs l).ended)
     (row_run (report_of m bs l).number xs (ran_log m bs l) t e)
@@ -125,17 +118,17 @@ row_run_of xs bs l t e = run_by (machine_of xs) xs bs l t e
 
 -- what a number is read as
 
-abbrev pub mode_read : ℕ → ModeRead
-mode_read n = pick (ltb 1 n) ModeRead.Stray (ModeRead.Is (mode_of n))
+abbrev pub mode_read : ℕ → Result Mode Refusal
+mode_read n = pick (ltb 1 n) (Err OutOfRange) (Ok (mode_of n))
 
-abbrev pub phase_read : ℕ → PhaseRead
-phase_read n = pick (ltb 2 n) PhaseRead.Stray (PhaseRead.Is (phase_of n))
+abbrev pub phase_read : ℕ → Result Phase Refusal
+phase_read n = pick (ltb 2 n) (Err OutOfRange) (Ok (phase_of n))
 
-abbrev pub last_read : ℕ → LastRead
-last_read n = pick (no_last n) LastRead.Stray (LastRead.Is (last_of n))
+abbrev pub last_read : ℕ → Option Last
+last_read n = pick (no_last n) None (Some (last_of n))
 
-abbrev pub again_read : ℕ → AgainRead
-again_read n = pick (ltb 2 n) AgainRead.Stray (AgainRead.Is (again_of n))
+abbrev pub again_read : ℕ → Result Repeat Refusal
+again_read n = pick (ltb 2 n) (Err OutOfRange) (Ok (again_of n))
 
-abbrev pub announced_read : ℕ → AnnouncedRead
-announced_read n = pick (ltb 1 n) AnnouncedRead.Stray (AnnouncedRead.Is (eqb n 1))
+abbrev pub announced_read : ℕ → Option Bool
+announced_read n = pick (ltb 1 n) None (Some (eqb n 1))

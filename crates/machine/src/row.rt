@@ -4,193 +4,147 @@
 ghost use Rattle.std.specs.Prelude.{◌≡◌};
 ghost use Rattle.machine.specs.Row.{mode_read, phase_read, last_read, again_read, announced_read, mode_number, phase_number, last_number, again_number, machine_of, row_of};
 
-use crate::{Last, Machine, Mode, Phase, Repeat};
-use bits::wide;
+use crate::{Machine, Mode, Phase, Repeat};
+use bits::{Refusal, wide};
 use control::ContinuityCounter;
 
-// The machine that a row stands for, if for one.
-#[derive(Clone, Copy)]
-pub enum RowRead {
-    Is(Machine),
-    Stray,
-}
+impl TryFrom<u64> for Mode {
+    type Error = Refusal;
 
-// What a number stands for, if for anything.
-#[derive(Clone, Copy)]
-pub enum ModeRead {
-    Is(Mode),
-    Stray,
-}
+    ghost try_from_gives = { λ n r. r ≡ mode_read n };
 
-#[derive(Clone, Copy)]
-pub enum PhaseRead {
-    Is(Phase),
-    Stray,
-}
-
-#[derive(Clone, Copy)]
-pub enum LastRead {
-    Is(Last),
-    Stray,
-}
-
-#[derive(Clone, Copy)]
-pub enum AgainRead {
-    Is(Repeat),
-    Stray,
-}
-
-#[derive(Clone, Copy)]
-pub enum AnnouncedRead {
-    Is(bool),
-    Stray,
-}
-
-fn mode_of(n: u64) -> ModeRead
-    ensures { result ≡ mode_read n }
-{
-    match n {
-        0 => ModeRead::Is(Mode::Crate),
-        1 => ModeRead::Is(Mode::Standard),
-        _ => ModeRead::Stray,
+    fn try_from(n: u64) -> Result<Mode, Refusal> {
+        match n {
+            0 => Ok(Mode::Crate),
+            1 => Ok(Mode::Standard),
+            _ => Err(Refusal::OutOfRange),
+        }
     }
 }
 
-fn phase_of(n: u64) -> PhaseRead
-    ensures { result ≡ phase_read n }
-{
-    match n {
-        0 => PhaseRead::Is(Phase::Begin),
-        1 => PhaseRead::Is(Phase::Started),
-        2 => PhaseRead::Is(Phase::IgnoreRest),
-        _ => PhaseRead::Stray,
+impl TryFrom<u64> for Phase {
+    type Error = Refusal;
+
+    ghost try_from_gives = { λ n r. r ≡ phase_read n };
+
+    fn try_from(n: u64) -> Result<Phase, Refusal> {
+        match n {
+            0 => Ok(Phase::Begin),
+            1 => Ok(Phase::Started),
+            2 => Ok(Phase::IgnoreRest),
+            _ => Err(Refusal::OutOfRange),
+        }
     }
 }
 
-fn last_of(n: u64) -> LastRead
+impl TryFrom<u64> for Repeat {
+    type Error = Refusal;
+
+    ghost try_from_gives = { λ n r. r ≡ again_read n };
+
+    fn try_from(n: u64) -> Result<Repeat, Refusal> {
+        match n {
+            0 => Ok(Repeat::Barred),
+            1 => Ok(Repeat::Open),
+            2 => Ok(Repeat::Spent),
+            _ => Err(Refusal::OutOfRange),
+        }
+    }
+}
+
+impl From<Mode> for u64 {
+    ghost from_gives = { λ m n. n ≡ mode_number m };
+
+    fn from(m: Mode) -> u64 {
+        match m {
+            Mode::Crate => 0,
+            Mode::Standard => 1,
+        }
+    }
+}
+
+impl From<Phase> for u64 {
+    ghost from_gives = { λ p n. n ≡ phase_number p };
+
+    fn from(p: Phase) -> u64 {
+        match p {
+            Phase::Begin => 0,
+            Phase::Started => 1,
+            Phase::IgnoreRest => 2,
+        }
+    }
+}
+
+impl From<Repeat> for u64 {
+    ghost from_gives = { λ r n. n ≡ again_number r };
+
+    fn from(r: Repeat) -> u64 {
+        match r {
+            Repeat::Barred => 0,
+            Repeat::Open => 1,
+            Repeat::Spent => 2,
+        }
+    }
+}
+
+// The last counter that a number stands for, or none, if it stands for something.
+fn last_of(n: u64) -> Option<Option<ContinuityCounter>>
     ensures { result ≡ last_read n }
 {
-    if n == 255 {
-        return LastRead::Is(Last::Nothing);
-    }
-    if 15 < n {
-        return LastRead::Stray;
-    }
-    LastRead::Is(Last::At(ContinuityCounter::from_byte_four(n as u8)))
-}
-
-fn again_of(n: u64) -> AgainRead
-    ensures { result ≡ again_read n }
-{
     match n {
-        0 => AgainRead::Is(Repeat::Barred),
-        1 => AgainRead::Is(Repeat::Open),
-        2 => AgainRead::Is(Repeat::Spent),
-        _ => AgainRead::Stray,
+        255 => Some(None),
+        0..=15 => Some(Some(ContinuityCounter::from_byte_four(n as u8))),
+        _ => None,
     }
 }
 
-fn announced_of(n: u64) -> AnnouncedRead
+fn announced_of(n: u64) -> Option<bool>
     ensures { result ≡ announced_read n }
 {
     match n {
-        0 => AnnouncedRead::Is(false),
-        1 => AnnouncedRead::Is(true),
-        _ => AnnouncedRead::Stray,
+        0 => Some(false),
+        1 => Some(true),
+        _ => None,
     }
 }
 
-fn mode_number(m: Mode) -> u64
-    ensures { result ≡ mode_number m }
+fn last_number(last: Option<ContinuityCounter>) -> u64
+    ensures { result ≡ last_number last }
 {
-    match m {
-        Mode::Crate => 0,
-        Mode::Standard => 1,
+    match last {
+        None => 255,
+        Some(c) => wide(c.count()),
     }
 }
 
-fn phase_number(p: Phase) -> u64
-    ensures { result ≡ phase_number p }
-{
-    match p {
-        Phase::Begin => 0,
-        Phase::Started => 1,
-        Phase::IgnoreRest => 2,
-    }
-}
-
-fn last_number(l: Last) -> u64
-    ensures { result ≡ last_number l }
-{
-    match l {
-        Last::Nothing => 255,
-        Last::At(c) => wide(c.count()),
-    }
-}
-
-fn again_number(r: Repeat) -> u64
-    ensures { result ≡ again_number r }
-{
-    match r {
-        Repeat::Barred => 0,
-        Repeat::Open => 1,
-        Repeat::Spent => 2,
-    }
-}
-
-pub fn read(row: &[u64; 7]) -> RowRead
+// The machine that a row stands for, if for one.
+#[tactic(auto, unfolding(crate::specs::Row::machine_of, crate::specs::Row::strays))]
+pub fn read(row: &[u64; 7]) -> Option<Machine>
     ensures { result ≡ machine_of row.now }
 {
-    let mode = row[0];
-    let phase = row[1];
-    let last = row[2];
-    let again = row[3];
-    let announced = row[4];
-    let taken = row[5];
-    let place = row[6];
-    let ModeRead::Is(mo) = mode_of(mode) else {
-        return RowRead::Stray;
-    };
-    let PhaseRead::Is(ph) = phase_of(phase) else {
-        return RowRead::Stray;
-    };
-    let LastRead::Is(la) = last_of(last) else {
-        return RowRead::Stray;
-    };
-    let AgainRead::Is(ag) = again_of(again) else {
-        return RowRead::Stray;
-    };
-    let AnnouncedRead::Is(an) = announced_of(announced) else {
-        return RowRead::Stray;
-    };
-    if 4294967295 < taken {
-        return RowRead::Stray;
-    }
-    RowRead::Is(Machine {
-        mode: mo,
-        phase: ph,
-        last: la,
-        again: ag,
-        announced: an,
-        taken: taken as u32,
+    let [mode, phase, last, again, announced, taken, place] = *row;
+    Some(Machine {
+        mode: Mode::try_from(mode).ok()?,
+        phase: Phase::try_from(phase).ok()?,
+        last: last_of(last)?,
+        again: Repeat::try_from(again).ok()?,
+        announced: announced_of(announced)?,
+        taken: u32::try_from(taken).ok()?,
         place: place as usize,
     })
 }
 
+#[tactic(auto, unfolding(crate::specs::Row::row_of))]
 pub fn write(m: Machine, row: &mut [u64; 7])
     ensures { row.new ≡ row_of m }
 {
-    let mo = m.mode;
-    let ph = m.phase;
-    let la = m.last;
-    let ag = m.again;
     *row = [
-        mode_number(mo),
-        phase_number(ph),
-        last_number(la),
-        again_number(ag),
-        m.announced as u64,
-        m.taken as u64,
+        u64::from(m.mode),
+        u64::from(m.phase),
+        last_number(m.last),
+        u64::from(m.again),
+        u64::from(m.announced),
+        u64::from(m.taken),
         m.place as u64,
     ];
 }

@@ -1,17 +1,11 @@
-use Rattle.machine.proofs.Rows.{row_laws}
+use mathlib.Core.Path.{◌≡◌, ap}
+use native.Mathlib.Omega.{arith}
+use Rattle.std.proofs.lemmas.Grind.{common_steps}
+use Rattle.control.proofs.Laws.{counter-is}
+use Rattle.machine.specs.Events.{as_counter}
 use Rattle.machine.proofs.row.last_of.Goals as goal
 
-pub returns-then-n-eq255 : goal.returns-then-n-eq255
-returns-then-n-eq255 c = search row_laws
-
-pub returns-then-n-gt15 : goal.returns-then-n-gt15
-returns-then-n-gt15 c = search row_laws
-
-pub overflow_cast-n : goal.overflow_cast-n
-overflow_cast-n c = search row_laws
-
-pub from_byte_four-requires : goal.from_byte_four-requires
-from_byte_four-requires c = search row_laws
-
-pub returns : goal.returns
-returns c = search row_laws
+pub returns-in-0-to-15 : goal.returns-in-0-to-15
+returns-in-0-to-15 c =
+    let e : c.from_byte_four.result ≡ as_counter c.args.n = ap as_counter (omega (arith, c.from_byte_four.ensures, counter-is c.args.n)) in
+    grind (arith, common_steps, e)
