@@ -1,90 +1,46 @@
--- How an answer comes to be reported.
+-- How an answer comes to be told.
 -- Assumes nothing.
 use mathlib.Core.Path.{◌≡◌, refl, sym, ap, ap₂, ◌∙◌}
-use mathlib.Core.Bool.{Bool, true, false}
+use mathlib.Core.Bool.{Bool, true, false, ◌&&◌}
 use mathlib.Core.List.{List, [], ◌∷◌}
-use mathlib.Core.Logic.{◌↔◌}
-use Prim.Native.Nat.{ℕ, ◌+◌, ◌*◌}
+use Prim.Native.Nat.{ℕ, ◌+◌, ◌*◌, ◌^◌}
 use native.Mathlib.Omega.{arith}
-use lib.Dec.{eqb}
+use lib.Dec.{eqb, ltb}
 use borrow.Author.Tests.{eq-eqb, ne_eqb, eqb-true}
 use lib.ListN.{length, get_or}
 use mir.Val.{bool_byte}
+use Rattle.std.specs.Prelude.{Option, Some, None, Result, Ok, Err}
+use Rattle.std.specs.Option.{unwrap_or}
 use Rattle.bits.specs.Answer.{Answer, answer, pick, and_then, truth, unless}
+use Rattle.bits.specs.Refused.{refused, given}
 use Rattle.bits.proofs.Checks.{unless-map}
-use Rattle.bits.proofs.Tests.{one_truth}
+use Rattle.bits.specs.declared.refusal.Refusal.{Refusal}
+use Rattle.bits.proofs.Refusals.{limited-refusal, refused-not_done}
 use Rattle.timestamp.specs.declared.Timestamp.{Timestamp}
-use Rattle.timestamp.specs.declared.TimestampMade.{TimestampMade}
-use Rattle.timestamp.specs.Stamp as stamp
+use Rattle.timestamp.specs.Stamp.{timestamp_values, make_stamp, likely_wrapped}
 use Rattle.timestamp.proofs.Laws.{made-value}
+use Rattle.control.specs.declared.AdaptationControl.{AdaptationControl}
+use Rattle.control.specs.declared.TransportScramblingControl.{TransportScramblingControl}
 use Rattle.control.specs.declared.ClockRef.{ClockRef}
-use Rattle.control.specs.declared.ClockMade.{ClockMade}
-use Rattle.control.specs.declared.ClockNumber.{ClockNumber}
 use Rattle.control.specs.declared.ContinuityCounter.{ContinuityCounter}
-use Rattle.control.specs.declared.CounterMade.{CounterMade}
-use Rattle.control.specs.declared.Scheme.{Scheme}
-use Rattle.control.specs.Clock.{clock, clock_values, clock_number, given_made, given_number, make_clock}
-use Rattle.control.proofs.Laws.{clock-made, counter_made, number-refused, number_of_lem}
 use Rattle.control.specs.declared.Compared.{Compared}
-use Rattle.control.specs.Control.{given_counter, given_scheme, make_counter, compare, follows, is_scrambled, scrambling, read_scheme}
+use Rattle.control.specs.Clock.{clock, clock_values, clock_fits, clock_number, make_clock}
+use Rattle.control.specs.Control.{counter_values, make_counter, compare, follows, is_scrambled, scrambling, scheme_values, read_scheme, has_adaptation_field, has_payload}
 use Rattle.packet.specs.Packet.{not_packet, read_byte_four}
-use Rattle.contents.specs.declared.Refusal.{Refusal}
+use Rattle.packet.specs.Packet as packet
+use Rattle.control.proofs.Laws.{clock-made, counter_made, number_of_lem}
 use Rattle.contents.specs.declared.EsRate.{EsRate}
-use Rattle.contents.specs.declared.EsRateMade.{EsRateMade}
-use Rattle.contents.specs.declared.EsRateNumber.{EsRateNumber}
 use Rattle.contents.specs.Contents.{make_rate, rate_bytes}
-use Rattle.contents.specs.Given.{refusal, given_rate_made, given_rate_number}
-use Rattle.contents.proofs.Laws.{rate-refused, rate-kept}
-use Rattle.host.specs.Clocks.{same_pair, same_answer, compared_number, compared_answer, follows_answer, scrambling_answer}
+use Rattle.contents.specs.Given.{rate_values}
+use Rattle.contents.proofs.Laws.{rate-kept}
+use Rattle.host.specs.Clocks.{same_pair, same_answer, compared_values, compared_answer, follows_answer, control_values, scrambling_values}
+use Rattle.host.specs.Packets.{read_scrambling, read_control}
 use Rattle.host.specs.Stamps.{wrap_answer}
 use Rattle.host.specs.Reports.{Reports, word, filled, outs}
 
 module _ {a : Answer} {w : ℕ} {lent left : List ℕ} where
   pub reports : w ≡ word a → left ≡ outs a lent → Reports a w lent left
   reports n v = record { number = n; numbers = v }
-
-  -- what reports an answer reports one that is equal to it
-  pub reports_as : {b : Answer} → b ≡ a → Reports b w lent left → Reports a w lent left
-  reports_as e t = rw (← e) t
-
--- of what a call returned, from the case that it is
-module _ {R : Type 0} (given : R → Answer) {r k : R} where
-  pub given-case : {a : Answer} → given r ≡ a → r ≡ k → given k ≡ a
-  given-case e f = ap given (sym f) ∙ e
-
-  module _ {w : ℕ} {lent left : List ℕ} where
-    -- the answer that the call ensures
-    pub reports_of : {a : Answer} → given r ≡ a → r ≡ k → Reports (given k) w lent left → Reports a w lent left
-    reports_of e f t = reports_as (given-case e f) t
-
-    -- that answer, or one behind it
-    pub reports_before : (p q : Answer) → given r ≡ p → r ≡ k → Reports (and_then (given k) q) w lent left → Reports (and_then p q) w lent left
-    reports_before p q e f t = rw (← e, f) t
-
-    -- one behind two calls
-    pub reports_behind : {m n : R} (p q a : Answer) → given r ≡ p → r ≡ k → given m ≡ q → m ≡ n
-        → Reports (and_then (given k) (and_then (given n) a)) w lent left → Reports (and_then p (and_then q a)) w lent left
-    reports_behind p q a e f g h t = rw (← e, f, ← g, h) t
-
--- numbers that are those of the answer, one by one
-pub number-as : {m n : ℕ} {ms ns : List ℕ} → m ≡ n → ms ≡ ns → m ∷ ms ≡ n ∷ ns
-number-as e f = ap₂ ◌∷◌ e f
-
--- a refusal of the contents is reported whatever numbers are lent
-pub refused_any : {w : ℕ} {lent : List ℕ} (r : Refusal) → Reports (refusal r) w [] [] → Reports (refusal r) w lent lent
-refused_any Refusal.ShortContents t = reports t.number refl
-refused_any Refusal.BadCheckBits t = reports t.number refl
-refused_any Refusal.HeaderPastBuffer t = reports t.number refl
-refused_any Refusal.FieldsPastHeader t = reports t.number refl
-
--- a number or a truth value, of two things that were both made of numbers
-two_reports : {p q : Answer} (vs ws : List ℕ) (l n k : ℕ) → answer 0 vs ≡ p → answer 0 ws ≡ q → n ≡ k
-    → Reports (and_then p (and_then q (answer 0 (k ∷ [])))) 0 (l ∷ []) (n ∷ [])
-two_reports vs ws l n k p q e = rw (← p, ← q) (reports refl (ap (λ (v : ℕ). v ∷ []) e))
-
-both_reports : {p q : Answer} (vs ws : List ℕ) (l : ℕ) (b t : Bool) → answer 0 vs ≡ p → answer 0 ws ≡ q → b ≡ t
-    → Reports (and_then p (and_then q (answer 0 (truth t ∷ [])))) 0 (l ∷ []) (bool_byte b ∷ [])
-both_reports vs ws l b t p q e = two_reports vs ws l _ _ p q (ap truth e)
 
 -- ---- answers that stand behind a first one
 
@@ -121,60 +77,48 @@ module _ {a : Answer} {w : ℕ} (lent : List ℕ) (t : Reports a w [] []) where
   reports-whole {left} {vs} h e l =
       rw (eq-eqb a.number 0 (reports-done t h)) (reports refl (e ∙ sym (filled-all lent vs (l ∙ ap length e))))
 
--- ---- timestamps
+-- ---- what is made of two numbers, or of two things that were made of numbers
 
-pub wrap_reports : (v s l : ℕ) (b : Bool) (m n : TimestampMade) (x y : Timestamp) → stamp.given_made m ≡ stamp.make_stamp v → m ≡ TimestampMade.Done x
-    → stamp.given_made n ≡ stamp.make_stamp s → n ≡ TimestampMade.Done y → b ≡ stamp.likely_wrapped x.val y.val
-    → Reports (wrap_answer v s) 0 (l ∷ []) (bool_byte b ∷ [])
-wrap_reports v s l b m n x y p e q f h =
-    let i = given-case stamp.given_made p e in
-    let j = given-case stamp.given_made q f in
-    both_reports (x.val ∷ []) (y.val ∷ []) l b (stamp.likely_wrapped v s) i j (rw (made-value v x.val i, made-value s y.val j) at h)
+pub wrapped : (v s : ℕ) (x y : Timestamp) (b : Bool) → answer 0 (timestamp_values x) ≡ make_stamp v → answer 0 (timestamp_values y) ≡ make_stamp s
+    → b ≡ likely_wrapped x.val y.val → answer 0 (truth b ∷ []) ≡ wrap_answer v s
+wrapped v s x y b p q h =
+    let e : b ≡ likely_wrapped v s = rw (made-value v x.val p, made-value s y.val q) at h in
+    rw (← p, ← q) (ap (λ (t : Bool). answer 0 (truth t ∷ [])) e)
 
--- ---- clock references, counters and the fourth byte
+-- two clock references are the same where both numbers are
+both-same : (t u : Bool) → (t && u) ≡ pick t u false
+both-same true u = refl
+both-same false u = refl
 
--- the test of two pairs says just when they are one clock reference
-pub pair_same : (b e b' e' : ℕ) → (same_pair b e b' e' ≡ true) ↔ (clock b e ≡ clock b' e')
+pub same-clock : (b e b' e' : ℕ) (c d : ClockRef) (s : Bool) → answer 0 (clock_values c) ≡ make_clock b e → answer 0 (clock_values d) ≡ make_clock b' e'
+    → s ≡ (eqb c.base d.base && eqb c.extension d.extension) → answer 0 (truth s ∷ []) ≡ same_answer b e b' e'
 unfolding same_pair
-pair_same b e b' e' =
-    (go (eqb b b') refl, λ h. simp (eq-eqb b b' (ap (λ (c : ClockRef). c.base) h), eq-eqb e e' (ap (λ (c : ClockRef). c.extension) h)))
-  where
-    go : (t : Bool) → eqb b b' ≡ t → pick t (eqb e e') false ≡ true → clock b e ≡ clock b' e'
-    go true h k = ap₂ clock (eqb-true b b' h) (eqb-true e e' k)
-    go false h k = let z : ◌≡◌ {A = ℕ} 0 1 = ap truth k in absurd (omega arith)
+same-clock b e b' e' c d s p q h =
+    let k : s ≡ pick (eqb b b') (eqb e e') false = (rw (clock-made b e c p, clock-made b' e' d q) at h) ∙ both-same (eqb b b') (eqb e e') in
+    rw (← p, ← q) (ap (λ (t : Bool). answer 0 (truth t ∷ [])) k)
 
-pub same_reports : (b e b' e' l : ℕ) (s : Bool) (m n : ClockMade) (c d : ClockRef) → given_made m ≡ make_clock b e → m ≡ ClockMade.Done c
-    → given_made n ≡ make_clock b' e' → n ≡ ClockMade.Done d → (s ≡ true) ↔ (c ≡ d) → Reports (same_answer b e b' e') 0 (l ∷ []) (bool_byte s ∷ [])
-same_reports b e b' e' l s m n c d p i q j h =
-    let x = given-case given_made p i in
-    let y = given-case given_made q j in
-    both_reports (clock_values c) (clock_values d) l s (same_pair b e b' e') x y
-    (one_truth (clock b e ≡ clock b' e') s (same_pair b e b' e') (rw (clock-made b e c x, clock-made b' e' d y) at h) (pair_same b e b' e'))
+-- a number that is refused by one pair of fits is refused by the same
+pub clock_number-refused : (b e : ℕ) (r : Refusal) → refused r ≡ make_clock b e → refused r ≡ clock_number b e
+unfolding make_clock clock_number
+clock_number-refused b e r h = limited-refusal (clock_fits b e) (b ∷ e ∷ []) ((b * 300 + e) ∷ []) r h
 
-pub number-none : (b e : ℕ) {lent : List ℕ} (m : ClockMade) → given_made m ≡ make_clock b e → m ≡ ClockMade.OutOfRange → Reports (clock_number b e) 14 lent lent
-number-none b e m p i = rw (number-refused b e (given-case given_made p i)) (reports refl refl)
+pub clock_number-given : (b e : ℕ) (c : ClockRef) (a : Answer) → answer 0 (clock_values c) ≡ make_clock b e → a ≡ clock_number c.base c.extension
+    → a ≡ clock_number b e
+clock_number-given b e c a p q = q ∙ number_of_lem b e c p
 
-pub number-some : (b e : ℕ) {w : ℕ} {lent left : List ℕ} (m : ClockMade) (c : ClockRef) (r k : ClockNumber) → given_made m ≡ make_clock b e → m ≡ ClockMade.Done c
-    → given_number r ≡ clock_number c.base c.extension → r ≡ k → Reports (given_number k) w lent left → Reports (clock_number b e) w lent left
-number-some b e m c r k p i q j t = reports_of given_number (q ∙ number_of_lem b e c (given-case given_made p i)) j t
+pub counter_follows : (a b : ℕ) (x y : ContinuityCounter) (f : Bool) → answer 0 (counter_values x) ≡ make_counter a → answer 0 (counter_values y) ≡ make_counter b
+    → f ≡ follows x.val y.val → answer 0 (truth f ∷ []) ≡ follows_answer a b
+counter_follows a b x y f p q h =
+    let e : f ≡ follows a b = rw (counter_made a x.val p, counter_made b y.val q) at h in
+    rw (← p, ← q) (ap (λ (t : Bool). answer 0 (truth t ∷ [])) e)
 
-pub follows-reports : (a b l : ℕ) (f : Bool) (m n : CounterMade) (x y : ContinuityCounter) → given_counter m ≡ make_counter a → m ≡ CounterMade.Done x
-    → given_counter n ≡ make_counter b → n ≡ CounterMade.Done y → f ≡ follows x.val y.val → Reports (follows_answer a b) 0 (l ∷ []) (bool_byte f ∷ [])
-follows-reports a b l f m n x y p e q g h =
-    let i = given-case given_counter p e in
-    let j = given-case given_counter q g in
-    both_reports (x.val ∷ []) (y.val ∷ []) l f (follows a b) i j (rw (counter_made a x.val i, counter_made b y.val j) at h)
+pub counters-compared : (a b : ℕ) (x y : ContinuityCounter) (k : Compared) → answer 0 (counter_values x) ≡ make_counter a
+    → answer 0 (counter_values y) ≡ make_counter b → k ≡ compare x.val y.val → answer 0 (compared_values k) ≡ compared_answer a b
+counters-compared a b x y k p q h =
+    let e : k ≡ compare a b = rw (counter_made a x.val p, counter_made b y.val q) at h in
+    rw (← p, ← q) (ap (λ (c : Compared). answer 0 (compared_values c)) e)
 
-pub compared_reports : (a b l v : ℕ) (k : Compared) (m n : CounterMade) (x y : ContinuityCounter) → given_counter m ≡ make_counter a → m ≡ CounterMade.Done x
-    → given_counter n ≡ make_counter b → n ≡ CounterMade.Done y → k ≡ compare x.val y.val → v ≡ compared_number k
-    → Reports (compared_answer a b) 0 (l ∷ []) (v ∷ [])
-compared_reports a b l v k m n x y p e q g h f =
-    let i = given-case given_counter p e in
-    let j = given-case given_counter q g in
-    two_reports (x.val ∷ []) (y.val ∷ []) l v (compared_number (compare a b)) i j
-    (f ∙ ap compared_number (h ∙ ap₂ compare (counter_made a x.val i) (counter_made b y.val j)))
-
--- the number of a scheme, 0 where there is none: the value after the kind
+-- the number of a scheme, 0 where there is none
 scheme-is : (b : ℕ) → get_or (read_scheme b).values 1 0 ≡ scrambling b
 unfolding read_scheme
 scheme-is b = go (scrambling b) (eqb (scrambling b) 0) refl
@@ -183,34 +127,40 @@ scheme-is b = go (scrambling b) (eqb (scrambling b) 0) refl
     go n true e = sym (eqb-true n 0 e)
     go n false e = refl
 
-pub scrambling-reports : (b l m n : ℕ) (t : Bool) (s k : Scheme) → t ≡ is_scrambled b → given_scheme s ≡ read_scheme b → s ≡ k
-    → n ≡ get_or (given_scheme k).values 1 0 → Reports (scrambling_answer b) 0 (l ∷ m ∷ []) (bool_byte t ∷ n ∷ [])
-scrambling-reports b l m n t s k h p e q =
-    reports refl (number-as (ap truth h) (number-as (q ∙ ap (λ (a : Answer). get_or a.values 1 0) (given-case given_scheme p e) ∙ scheme-is b) refl))
+scheme-or : (o : Option ℕ) → unwrap_or o 0 ≡ get_or (scheme_values o) 1 0
+scheme-or None = refl
+scheme-or (Some n) = refl
 
--- ---- packets
+pub scheme-told : (b n : ℕ) (o : Option ℕ) → n ≡ unwrap_or o 0 → answer 0 (scheme_values o) ≡ read_scheme b → n ≡ scrambling b
+scheme-told b n o e p = e ∙ scheme-or o ∙ ap (λ (a : Answer). get_or a.values 1 0) p ∙ scheme-is b
 
--- what is read of a fourth byte, from the answer that gives the byte
-abbrev through : (ℕ → Answer) → Answer → Answer
-through f a = pick (eqb a.number 0) (f (get_or a.values 0 0)) a
-
-four_through : (f : ℕ → Answer) (xs : List ℕ) → through f (read_byte_four xs) ≡ unless (not_packet xs) (f (get_or xs 3 0))
+-- what is read of a fourth byte, from the reader that gives the byte
+four_through : (f : ℕ → List ℕ) (xs : List ℕ) (a : Answer) → a ≡ read_byte_four xs
+    → pick (eqb a.number 0) (answer 0 (f (get_or a.values 0 0))) a ≡ unless (not_packet xs) (answer 0 (f (get_or xs 3 0)))
 unfolding not_packet
-four_through f xs = unless-map (not_packet xs) (through f) (λ n h. rw (ne_eqb n 0 (omega arith))) (omega arith) _
+four_through f xs a e =
+    rw e (unless-map (not_packet xs) (λ (b : Answer). pick (eqb b.number 0) (answer 0 (f (get_or b.values 0 0))) b) (λ n h. rw (ne_eqb n 0 (omega arith))) (omega arith) _)
 
-pub four_reports : {R : Type 0} (f : ℕ → Answer) (given : R → Answer) (xs : List ℕ) {r k : R} {w : ℕ} {lent left : List ℕ} → given r ≡ read_byte_four xs → r ≡ k
-    → Reports (through f (given k)) w lent left → Reports (unless (not_packet xs) (f (get_or xs 3 0))) w lent left
-four_reports f given xs p e t = reports_of (λ k. through f (given k)) (ap (through f) p ∙ four_through f xs) e t
+pub four-given : {A : Type 0} (f : ℕ → List ℕ) (byte : A → ℕ) (xs : List ℕ) (r : Result A Refusal) → given (λ (x : A). byte x ∷ []) r ≡ read_byte_four xs
+    → given (λ (x : A). f (byte x)) r ≡ unless (not_packet xs) (answer 0 (f (get_or xs 3 0)))
+four-given f byte xs (Ok x) e = four_through f xs (answer 0 (byte x ∷ [])) e
+four-given f byte xs (Err r) e = sym (refused-not_done r _ (refused r)) ∙ four_through f xs (refused r) e
 
--- ---- rates
+pub scrambling-given : (xs : List ℕ) (r : Result TransportScramblingControl Refusal) → given packet.scrambling_values r ≡ read_byte_four xs
+    → given scrambling_values r ≡ read_scrambling xs
+scrambling-given xs r e = four-given (λ (b : ℕ). truth (is_scrambled b) ∷ scrambling b ∷ []) (λ (c : TransportScramblingControl). c.0) xs r e
 
-pub rate-none : (n : ℕ) {lent : List ℕ} (m : EsRateMade) → given_rate_made m ≡ make_rate n → m ≡ EsRateMade.OutOfRange → Reports (rate_bytes n) 14 lent lent
-rate-none n m p i = rw (rate-refused n (given-case given_rate_made p i)) (reports refl refl)
+pub control-given : (xs : List ℕ) (r : Result AdaptationControl Refusal) → given packet.control_values r ≡ read_byte_four xs
+    → given control_values r ≡ read_control xs
+control-given xs r e = four-given (λ (b : ℕ). truth (has_adaptation_field b) ∷ truth (has_payload b) ∷ []) (λ (c : AdaptationControl). c.0) xs r e
 
-pub rate-some : (n : ℕ) {w : ℕ} {lent left : List ℕ} (m : EsRateMade) (e : EsRate) (r k : EsRateNumber) → given_rate_made m ≡ make_rate n → m ≡ EsRateMade.Done e
-    → given_rate_number r ≡ rate_bytes e.0 → r ≡ k → Reports (given_rate_number k) w lent left → Reports (rate_bytes n) w lent left
-rate-some n m e r k p i q j t = reports_of given_rate_number (q ∙ rate-kept n e.0 (given-case given_rate_made p i)) j t
+-- a rate that is refused is refused as its bytes are, and one that is kept is the number given
+pub rate_bytes-refused : (n : ℕ) (r : Refusal) → refused r ≡ make_rate n → refused r ≡ rate_bytes n
+unfolding make_rate rate_bytes
+rate_bytes-refused n r h = limited-refusal (ltb n (2 ^ 22)) (n ∷ []) ((n * 50) ∷ []) r h
 
--- What `search` is given for what is made of two numbers, or read of one that was made: these laws and no others, so that a wrong answer is
--- refused soon.
-pub ruleset made_laws = (wrap_reports, same_reports, number-none, number-some, compared_reports, follows-reports, rate-none, rate-some)
+pub rate_bytes-given : (n : ℕ) (e : EsRate) (a : Answer) → answer 0 (rate_values e) ≡ make_rate n → a ≡ rate_bytes e.0 → a ≡ rate_bytes n
+rate_bytes-given n e a p q = q ∙ rate-kept n e.0 p
+
+-- What the proofs of the crate are given beside the rules.
+pub ruleset host_laws = (wrapped, same-clock, clock_number-refused, clock_number-given, counter_follows, counters-compared, scheme-told, scrambling-given, control-given, rate_bytes-refused, rate_bytes-given)

@@ -2,14 +2,12 @@
 ghost use Rattle.std.specs.Prelude.{[], ◌∷◌, eqb};
 ghost use Rattle.bits.specs.Answer.{answer, truth};
 ghost use Rattle.bits.specs.Numbers.{done};
-ghost use Rattle.packet.specs.Packet.{given_flag, given_part, tried, read_flag, error_bit, start_bit, priority_bit, read_pid, read_counter};
+ghost use Rattle.packet.specs.Packet.{tried, read_flag, error_bit, start_bit, priority_bit, read_pid, read_counter};
 ghost use Rattle.packet.specs.Packet.{read_adaptation, read_payload};
 ghost use Rattle.host.specs.Reports.{Reports};
 ghost use Rattle.host.specs.Packets.{read_scrambling, read_control};
 
-use crate::numbers::{DONE, FIELD_NOT_PRESENT, NO_SYNC, WRONG_LENGTH};
-use crate::of_control::{report_control, report_scrambling};
-use packet::{ControlRead, CounterRead, FlagRead, PartRead, PidRead, ScramblingRead, Tried};
+use crate::told::{DONE, report, report_one, report_two};
 
 // packet::is_sync_byte
 pub fn cmv_packet_is_sync_byte(b: u8, is: &mut u64) -> u32
@@ -23,59 +21,35 @@ pub fn cmv_packet_is_sync_byte(b: u8, is: &mut u64) -> u32
 pub fn cmv_packet_try_new(buf: &[u8]) -> u32
     ensures { Reports (tried buf.now) result [] [] }
 {
-    match packet::try_new(buf) {
-        Tried::Done => DONE,
-        Tried::WrongLength => WRONG_LENGTH,
-        Tried::NoSync => NO_SYNC,
-    }
-}
-
-fn report_flag(r: FlagRead, value: &mut u64) -> u32
-    ensures { Reports (given_flag r) result (value.old ∷ []) (value.new ∷ []) }
-{
-    match r {
-        FlagRead::Done(b) => {
-            *value = b as u64;
-            DONE
-        }
-        FlagRead::WrongLength => WRONG_LENGTH,
-        FlagRead::NoSync => NO_SYNC,
-    }
+    report(packet::try_new(buf))
 }
 
 // packet::transport_error_indicator
 pub fn cmv_packet_transport_error_indicator(buf: &[u8], value: &mut u64) -> u32
     ensures { Reports (read_flag error_bit buf.now) result (value.old ∷ []) (value.new ∷ []) }
 {
-    report_flag(packet::transport_error_indicator(buf), value)
+    report_one(packet::transport_error_indicator(buf), value)
 }
 
 // packet::payload_unit_start_indicator
 pub fn cmv_packet_payload_unit_start_indicator(buf: &[u8], value: &mut u64) -> u32
     ensures { Reports (read_flag start_bit buf.now) result (value.old ∷ []) (value.new ∷ []) }
 {
-    report_flag(packet::payload_unit_start_indicator(buf), value)
+    report_one(packet::payload_unit_start_indicator(buf), value)
 }
 
 // packet::transport_priority
 pub fn cmv_packet_transport_priority(buf: &[u8], value: &mut u64) -> u32
     ensures { Reports (read_flag priority_bit buf.now) result (value.old ∷ []) (value.new ∷ []) }
 {
-    report_flag(packet::transport_priority(buf), value)
+    report_one(packet::transport_priority(buf), value)
 }
 
 // packet::pid
 pub fn cmv_packet_pid(buf: &[u8], value: &mut u64) -> u32
     ensures { Reports (read_pid buf.now) result (value.old ∷ []) (value.new ∷ []) }
 {
-    match packet::pid(buf) {
-        PidRead::Done(p) => {
-            *value = p.into_u16() as u64;
-            DONE
-        }
-        PidRead::WrongLength => WRONG_LENGTH,
-        PidRead::NoSync => NO_SYNC,
-    }
+    report_one(packet::pid(buf), value)
 }
 
 // packet::transport_scrambling_control
@@ -87,11 +61,7 @@ pub fn cmv_packet_transport_scrambling_control(
     ensures { Reports (read_scrambling buf.now) result (scrambled.old ∷ scheme.old ∷ [])
         (scrambled.new ∷ scheme.new ∷ []) }
 {
-    match packet::transport_scrambling_control(buf) {
-        ScramblingRead::Done(s) => report_scrambling(s, scrambled, scheme),
-        ScramblingRead::WrongLength => WRONG_LENGTH,
-        ScramblingRead::NoSync => NO_SYNC,
-    }
+    report_two(packet::transport_scrambling_control(buf), scrambled, scheme)
 }
 
 // packet::adaptation_control
@@ -99,43 +69,14 @@ pub fn cmv_packet_adaptation_control(buf: &[u8], field: &mut u64, payload: &mut 
     ensures { Reports (read_control buf.now) result (field.old ∷ payload.old ∷ [])
         (field.new ∷ payload.new ∷ []) }
 {
-    match packet::adaptation_control(buf) {
-        ControlRead::Done(a) => report_control(a, field, payload),
-        ControlRead::WrongLength => WRONG_LENGTH,
-        ControlRead::NoSync => NO_SYNC,
-    }
+    report_two(packet::adaptation_control(buf), field, payload)
 }
 
 // packet::continuity_counter
 pub fn cmv_packet_continuity_counter(buf: &[u8], value: &mut u64) -> u32
     ensures { Reports (read_counter buf.now) result (value.old ∷ []) (value.new ∷ []) }
 {
-    match packet::continuity_counter(buf) {
-        CounterRead::Done(k) => {
-            *value = k.count() as u64;
-            DONE
-        }
-        CounterRead::WrongLength => WRONG_LENGTH,
-        CounterRead::NoSync => NO_SYNC,
-    }
-}
-
-fn report_part(r: PartRead, place: &mut u64, length: &mut u64) -> u32
-    ensures { Reports (given_part r) result (place.old ∷ length.old ∷ []) (place.new ∷ length.new ∷ []) }
-{
-    match r {
-        PartRead::Done {
-            place: p,
-            length: n,
-        } => {
-            *place = p as u64;
-            *length = n as u64;
-            DONE
-        }
-        PartRead::WrongLength => WRONG_LENGTH,
-        PartRead::NoSync => NO_SYNC,
-        PartRead::FieldNotPresent => FIELD_NOT_PRESENT,
-    }
+    report_one(packet::continuity_counter(buf), value)
 }
 
 // packet::adaptation_field_at: where what adaptation_field gives lies
@@ -143,7 +84,7 @@ pub fn cmv_packet_adaptation_field(buf: &[u8], place: &mut u64, length: &mut u64
     ensures { Reports (read_adaptation buf.now) result (place.old ∷ length.old ∷ [])
         (place.new ∷ length.new ∷ []) }
 {
-    report_part(packet::adaptation_field_at(buf), place, length)
+    report_two(packet::adaptation_field_at(buf), place, length)
 }
 
 // packet::payload_at: where what payload gives lies
@@ -151,7 +92,7 @@ pub fn cmv_packet_payload(buf: &[u8], place: &mut u64, length: &mut u64) -> u32
     ensures { Reports (read_payload buf.now) result (place.old ∷ length.old ∷ [])
         (place.new ∷ length.new ∷ []) }
 {
-    report_part(packet::payload_at(buf), place, length)
+    report_two(packet::payload_at(buf), place, length)
 }
 
 // packet::SYNC_BYTE and packet::SIZE

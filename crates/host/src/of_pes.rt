@@ -1,51 +1,49 @@
 // Heads of PES packets.
-ghost use Rattle.std.specs.Prelude.{◌≡◌, [], ◌∷◌};
-ghost use Rattle.pes.specs.Head.{read_head, read_stream_id, read_length, read_contents_part};
+ghost use Rattle.std.specs.Prelude.{[], ◌∷◌};
+ghost use Rattle.pes.specs.Head.{length_values, contents_values, read_head, read_stream_id, read_length, read_contents_part};
 ghost use Rattle.pes.specs.Stream.{stream_values};
 ghost use Rattle.host.specs.Reports.{Reports};
 
-use crate::numbers::{BAD_START_CODE, DONE, Pair, SHORT_HEADER};
-use pes::{ContentsRead, HeadRead, LengthRead, StreamId, StreamIdRead};
+use crate::told::{Told, report, report_three, report_two};
+use pes::{PesContents, PesLength, StreamId};
 
 // pes::from_bytes
 pub fn cmv_pes_header_from_bytes(buf: &[u8]) -> u32
     ensures { Reports (read_head buf.now) result [] [] }
 {
-    match pes::from_bytes(buf) {
-        HeadRead::Done => DONE,
-        HeadRead::ShortHeader => SHORT_HEADER,
-        HeadRead::BadStartCode => BAD_START_CODE,
-    }
+    report(pes::from_bytes(buf))
 }
 
 // A kind, and what is kept beside it.
-fn values(s: StreamId) -> Pair
-    ensures { result.0 ∷ result.1 ∷ [] ≡ stream_values s }
-{
-    match s {
-        StreamId::ProgramStreamMap => Pair(0xBC, 0),
-        StreamId::PrivateStream1 => Pair(0xBD, 0),
-        StreamId::PaddingStream => Pair(0xBE, 0),
-        StreamId::PrivateStream2 => Pair(0xBF, 0),
-        StreamId::Audio(n) => Pair(0xC0, n as u64),
-        StreamId::Video(n) => Pair(0xE0, n as u64),
-        StreamId::EcmStream => Pair(0xF0, 0),
-        StreamId::EmmStream => Pair(0xF1, 0),
-        StreamId::DsmCc => Pair(0xF2, 0),
-        StreamId::Iso13522Stream => Pair(0xF3, 0),
-        StreamId::H2221TypeA => Pair(0xF4, 0),
-        StreamId::H2221TypeB => Pair(0xF5, 0),
-        StreamId::H2221TypeC => Pair(0xF6, 0),
-        StreamId::H2221TypeD => Pair(0xF7, 0),
-        StreamId::H2221TypeE => Pair(0xF8, 0),
-        StreamId::AncillaryStream => Pair(0xF9, 0),
-        StreamId::SlPacketizedStream => Pair(0xFA, 0),
-        StreamId::FlexMuxStream => Pair(0xFB, 0),
-        StreamId::MetadataStream => Pair(0xFC, 0),
-        StreamId::ExtendedStreamId => Pair(0xFD, 0),
-        StreamId::ReservedDataStream => Pair(0xFE, 0),
-        StreamId::ProgramStreamDirectory => Pair(0xFF, 0),
-        StreamId::Unknown(n) => Pair(0, n as u64),
+impl Told<2> for StreamId {
+    ghost values = { stream_values };
+
+    fn told(self) -> [u64; 2] {
+        match self {
+            StreamId::ProgramStreamMap => [0xBC, 0],
+            StreamId::PrivateStream1 => [0xBD, 0],
+            StreamId::PaddingStream => [0xBE, 0],
+            StreamId::PrivateStream2 => [0xBF, 0],
+            StreamId::Audio(n) => [0xC0, n as u64],
+            StreamId::Video(n) => [0xE0, n as u64],
+            StreamId::EcmStream => [0xF0, 0],
+            StreamId::EmmStream => [0xF1, 0],
+            StreamId::DsmCc => [0xF2, 0],
+            StreamId::Iso13522Stream => [0xF3, 0],
+            StreamId::H2221TypeA => [0xF4, 0],
+            StreamId::H2221TypeB => [0xF5, 0],
+            StreamId::H2221TypeC => [0xF6, 0],
+            StreamId::H2221TypeD => [0xF7, 0],
+            StreamId::H2221TypeE => [0xF8, 0],
+            StreamId::AncillaryStream => [0xF9, 0],
+            StreamId::SlPacketizedStream => [0xFA, 0],
+            StreamId::FlexMuxStream => [0xFB, 0],
+            StreamId::MetadataStream => [0xFC, 0],
+            StreamId::ExtendedStreamId => [0xFD, 0],
+            StreamId::ReservedDataStream => [0xFE, 0],
+            StreamId::ProgramStreamDirectory => [0xFF, 0],
+            StreamId::Unknown(n) => [0, n as u64],
+        }
     }
 }
 
@@ -57,15 +55,17 @@ pub fn cmv_pes_header_stream_id(buf: &[u8], kind: &mut u64, low: &mut u64) -> u3
     ensures { Reports (read_stream_id buf.now) result (kind.old ∷ low.old ∷ [])
         (kind.new ∷ low.new ∷ []) }
 {
-    match pes::stream_id(buf) {
-        StreamIdRead::Done(s) => {
-            let p = values(s);
-            *kind = p.0;
-            *low = p.1;
-            DONE
+    report_two(pes::stream_id(buf), kind, low)
+}
+
+impl Told<2> for PesLength {
+    ghost values = { length_values };
+
+    fn told(self) -> [u64; 2] {
+        match self {
+            PesLength::Unbounded => [0, 0],
+            PesLength::Bounded(n) => [1, n as u64],
         }
-        StreamIdRead::ShortHeader => SHORT_HEADER,
-        StreamIdRead::BadStartCode => BAD_START_CODE,
     }
 }
 
@@ -74,19 +74,17 @@ pub fn cmv_pes_header_pes_packet_length(buf: &[u8], kind: &mut u64, length: &mut
     ensures { Reports (read_length buf.now) result (kind.old ∷ length.old ∷ [])
         (kind.new ∷ length.new ∷ []) }
 {
-    match pes::pes_packet_length(buf) {
-        LengthRead::Unbounded => {
-            *kind = 0;
-            *length = 0;
-            DONE
+    report_two(pes::pes_packet_length(buf), kind, length)
+}
+
+impl Told<3> for PesContents {
+    ghost values = { contents_values };
+
+    fn told(self) -> [u64; 3] {
+        match self {
+            PesContents::Payload(e) => [0, e.place as u64, e.length as u64],
+            PesContents::Parsed(e) => [1, e.place as u64, e.length as u64],
         }
-        LengthRead::Bounded(n) => {
-            *kind = 1;
-            *length = n as u64;
-            DONE
-        }
-        LengthRead::ShortHeader => SHORT_HEADER,
-        LengthRead::BadStartCode => BAD_START_CODE,
     }
 }
 
@@ -95,26 +93,5 @@ pub fn cmv_pes_header_contents(buf: &[u8], kind: &mut u64, place: &mut u64, leng
     ensures { Reports (read_contents_part buf.now) result (kind.old ∷ place.old ∷ length.old ∷ [])
         (kind.new ∷ place.new ∷ length.new ∷ []) }
 {
-    match pes::contents(buf) {
-        ContentsRead::Payload {
-            place: p,
-            length: n,
-        } => {
-            *kind = 0;
-            *place = p as u64;
-            *length = n as u64;
-            DONE
-        }
-        ContentsRead::Parsed {
-            place: p,
-            length: n,
-        } => {
-            *kind = 1;
-            *place = p as u64;
-            *length = n as u64;
-            DONE
-        }
-        ContentsRead::ShortHeader => SHORT_HEADER,
-        ContentsRead::BadStartCode => BAD_START_CODE,
-    }
+    report_three(pes::contents(buf), kind, place, length)
 }
