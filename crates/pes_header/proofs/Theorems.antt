@@ -9,67 +9,52 @@ use native.Mathlib.Omega.{arith}
 use borrow.Author.Tests.{eqb-true, eqb-false}
 use lib.Dec.{eqb}
 use lib.ListN.{length, get_or, drop}
+use Rattle.std.specs.Prelude.{Result}
 use Rattle.bits.specs.Answer.{Answer, answer, pick, and_then, part_of}
+use Rattle.bits.specs.Refused.{given, no_values, extent_values}
+use Rattle.bits.specs.declared.Extent.{Extent}
+use Rattle.bits.specs.declared.refusal.Refusal.{Refusal}
 use Rattle.bits.proofs.Checks.{refused_by}
-use Rattle.bits.proofs.Tests.{one_answer}
+use Rattle.bits.proofs.Refusals.{given_one}
 use Rattle.bits.proofs.Parts.{part-refused, part-rest, part_in, part-done}
-use Rattle.pes.specs.declared.HeadRead.{HeadRead}
-use Rattle.pes.specs.declared.StreamIdRead.{StreamIdRead}
-use Rattle.pes.specs.declared.LengthRead.{LengthRead}
-use Rattle.pes.specs.declared.ContentsRead.{ContentsRead}
-use Rattle.pes.specs.Stream.{parsed_id}
-use Rattle.pes.specs.Head.{given_head, given_stream_id, given_length, given_contents}
+use Rattle.pes.specs.declared.StreamId.{StreamId}
+use Rattle.pes.specs.declared.PesLength.{PesLength}
+use Rattle.pes.specs.declared.PesContents.{PesContents}
+use Rattle.pes.specs.Stream.{stream_values, parsed_id}
+use Rattle.pes.specs.Head.{length_values, contents_values}
 use Rattle.pes.specs.Head.{not_head, id_of, read_head, read_stream_id, read_length, read_contents_part, contents_part}
 use Rattle.pes.proofs.Laws.{headed-done, contents-within}
 use Rattle.pes.proofs.Theorems.{one-head, one-stream-id, one-length, one-contents}
 use Rattle.contents.specs.Contents.{read_parsed_payload, read_contents}
 use Rattle.pes_header.specs.declared.PesHeader.{PesHeader}
-use Rattle.pes_header.specs.declared.PayloadRead.{PayloadRead}
-use Rattle.pes_header.specs.Payload.{given_payload, later, header_payload, payload_bytes}
+use Rattle.pes_header.specs.Payload.{later, header_payload, payload_bytes}
 use Rattle.pes_header.proofs.Laws.{later-number, later-part, contents-number}
 pub use Rattle.pes_header.proofs.Laws.{payload-within}
 
 -- ---- one answer only: any two answers that meet the promise of `payload_at` are equal
 
-payload_back : Answer → PayloadRead
-payload_back s =
-    pick (eqb s.number 0) (PayloadRead.Done (get_or s.values 0 0) (get_or s.values 1 0))
-    (pick (eqb s.number 3) PayloadRead.ShortHeader
-    (pick (eqb s.number 4) PayloadRead.BadStartCode
-    (pick (eqb s.number 5) PayloadRead.ShortContents
-    (pick (eqb s.number 6) PayloadRead.BadCheckBits
-    (pick (eqb s.number 7) PayloadRead.HeaderPastBuffer
-    PayloadRead.FieldsPastHeader)))))
-
-payload_back-given : (r : PayloadRead) → payload_back (given_payload r) ≡ r
-unfolding payload_back
-payload_back-given (PayloadRead.Done p n) = refl
-payload_back-given PayloadRead.ShortHeader = refl
-payload_back-given PayloadRead.BadStartCode = refl
-payload_back-given PayloadRead.ShortContents = refl
-payload_back-given PayloadRead.BadCheckBits = refl
-payload_back-given PayloadRead.HeaderPastBuffer = refl
-payload_back-given PayloadRead.FieldsPastHeader = refl
-
-pub one-payload : (s : Answer) (a b : PayloadRead) → given_payload a ≡ s → given_payload b ≡ s → a ≡ b
-one-payload = one_answer given_payload payload_back payload_back-given
+pub one-payload : (s : Answer) (a b : Result Extent Refusal) → given extent_values a ≡ s → given extent_values b ≡ s → a ≡ b
+one-payload = given_one extent_values (λ vs. record { place = get_or vs 0 0; length = get_or vs 1 0 }) (λ e. refl)
 
 -- ---- a header made of bytes answers as the functions on these bytes do: the reader's answer and the function's are one
 
 module _ (h : PesHeader) (xs : List ℕ) (e : h.buf.now ≡ xs) where
-  pub kept-head : (a b : HeadRead) → given_head a ≡ read_head h.buf.now → given_head b ≡ read_head xs → a ≡ b
+  pub kept-head : (a b : Result Unit Refusal) → given no_values a ≡ read_head h.buf.now → given no_values b ≡ read_head xs → a ≡ b
   kept-head a b p q = one-head (read_head xs) a b (p ∙ ap read_head e) q
 
-  pub kept-stream-id : (a b : StreamIdRead) → given_stream_id a ≡ read_stream_id h.buf.now → given_stream_id b ≡ read_stream_id xs → a ≡ b
+  pub kept-stream-id : (a b : Result StreamId Refusal) → given stream_values a ≡ read_stream_id h.buf.now
+      → given stream_values b ≡ read_stream_id xs → a ≡ b
   kept-stream-id a b p q = one-stream-id (read_stream_id xs) a b (p ∙ ap read_stream_id e) q
 
-  pub kept-length : (a b : LengthRead) → given_length a ≡ read_length h.buf.now → given_length b ≡ read_length xs → a ≡ b
+  pub kept-length : (a b : Result PesLength Refusal) → given length_values a ≡ read_length h.buf.now → given length_values b ≡ read_length xs → a ≡ b
   kept-length a b p q = one-length (read_length xs) a b (p ∙ ap read_length e) q
 
-  pub kept-contents : (a b : ContentsRead) → given_contents a ≡ read_contents_part h.buf.now → given_contents b ≡ read_contents_part xs → a ≡ b
+  pub kept-contents : (a b : Result PesContents Refusal) → given contents_values a ≡ read_contents_part h.buf.now
+      → given contents_values b ≡ read_contents_part xs → a ≡ b
   kept-contents a b p q = one-contents (read_contents_part xs) a b (p ∙ ap read_contents_part e) q
 
-  pub kept-payload_at : (a b : PayloadRead) → given_payload a ≡ header_payload h.buf.now → given_payload b ≡ header_payload xs → a ≡ b
+  pub kept-payload_at : (a b : Result Extent Refusal) → given extent_values a ≡ header_payload h.buf.now
+      → given extent_values b ≡ header_payload xs → a ≡ b
   kept-payload_at a b p q = one-payload (header_payload xs) a b (p ∙ ap header_payload e) q
 
   -- every part that is handed out, as the bytes' function f of the promise

@@ -2,21 +2,10 @@
 -- stream_id carries bare payload.
 use Rattle.std.specs.Prelude.{List, [], ◌∷◌, ℕ, ◌+◌, eqb, get_or, drop}
 use Rattle.bits.specs.Answer.{Answer, answer, pick, unless, part_of}
-use Rattle.bits.specs.Numbers.{done, short_header, bad_start_code, short_contents, bad_check_bits, header_past_buffer, fields_past_header}
+use Rattle.bits.specs.Numbers.{done}
 use Rattle.pes.specs.Stream.{parsed_id}
 use Rattle.pes.specs.Head.{id_of, not_head, contents_part}
 use Rattle.contents.specs.Contents.{read_parsed_payload}
-use Rattle.pes_header.specs.declared.PayloadRead.{PayloadRead}
-
--- place and length, or the number of the refusal
-abbrev pub given_payload : PayloadRead → Answer
-given_payload (PayloadRead.Done p n) = answer done (p ∷ n ∷ [])
-given_payload PayloadRead.ShortHeader = answer short_header []
-given_payload PayloadRead.BadStartCode = answer bad_start_code []
-given_payload PayloadRead.ShortContents = answer short_contents []
-given_payload PayloadRead.BadCheckBits = answer bad_check_bits []
-given_payload PayloadRead.HeaderPastBuffer = answer header_past_buffer []
-given_payload PayloadRead.FieldsPastHeader = answer fields_past_header []
 
 -- a part of the bytes from k on, as a part of the whole; a refusal stays
 abbrev pub later : ℕ → Answer → Answer

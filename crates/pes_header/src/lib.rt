@@ -1,58 +1,29 @@
 // A header read is an object (`PesHeader` of the original's pes.rs): it keeps the caller's bytes, and hands out a part of them as payload.
-#![tactic(auto)]
+#![tactic(auto, using(crate::proofs::Laws::header_laws))]
 
 ghost use Rattle.std.specs.Prelude.{◌≡◌};
 ghost use Rattle.bits.specs.Answer.{part_of};
-ghost use Rattle.pes.specs.Head.{given_head, given_stream_id, given_length, given_contents};
-ghost use Rattle.pes.specs.Head.{read_head, read_stream_id, read_length, read_contents_part, contents_part};
-ghost use Rattle.contents.specs.Given.{refusal};
-ghost use Rattle.pes_header.specs.Payload.{given_payload, header_payload, payload_bytes};
+ghost use Rattle.bits.specs.Refused.{given, no_values, extent_values};
+ghost use Rattle.pes.specs.Stream.{stream_values};
+ghost use Rattle.pes.specs.Head.{length_values, contents_values, read_head, read_stream_id, read_length, read_contents_part, contents_part};
+ghost use Rattle.pes_header.specs.Payload.{header_payload, payload_bytes};
 
-use bits::part;
-use contents::{PartRead, Refusal};
-use pes::{ContentsRead, HeadRead, LengthRead, StreamIdRead};
-
-// Where the payload lies, or why there is none: the head is refused (3, 4), or the contents that it announces are (5 to 8).
-#[derive(Clone, Copy)]
-pub enum PayloadRead {
-    Done { place: usize, length: usize },
-    ShortHeader,
-    BadStartCode,
-    ShortContents,
-    BadCheckBits,
-    HeaderPastBuffer,
-    FieldsPastHeader,
-}
-
-// Contents that are refused, as an answer about the payload.
-fn refused(why: Refusal) -> PayloadRead
-    ensures { given_payload result ≡ refusal why }
-{
-    match why {
-        Refusal::ShortContents => PayloadRead::ShortContents,
-        Refusal::BadCheckBits => PayloadRead::BadCheckBits,
-        Refusal::HeaderPastBuffer => PayloadRead::HeaderPastBuffer,
-        Refusal::FieldsPastHeader => PayloadRead::FieldsPastHeader,
-    }
-}
+use bits::{Extent, Refusal};
+use pes::{PesContents, PesLength, StreamId};
 
 // Where the payload lies: after the header data, or after the head where the id carries bare payload.
-pub fn payload_at(buf: &[u8]) -> PayloadRead
-    ensures { given_payload result ≡ header_payload buf.now }
+pub fn payload_at(buf: &[u8]) -> Result<Extent, Refusal>
+    ensures { given extent_values result ≡ header_payload buf.now }
 {
-    match pes::contents(buf) {
-        ContentsRead::ShortHeader => PayloadRead::ShortHeader,
-        ContentsRead::BadStartCode => PayloadRead::BadStartCode,
-        ContentsRead::Payload { place, length } => PayloadRead::Done { place, length },
-        ContentsRead::Parsed { place, length: _ } => match contents::payload_at(&buf[place..]) {
-            PartRead::Done { place: at, length } => PayloadRead::Done {
-                place: place + at,
-                length,
-            },
-            PartRead::Refused(why) => refused(why),
-            // cannot arise: a payload is never flagged
-            PartRead::FieldNotPresent => PayloadRead::FieldsPastHeader,
-        },
+    match pes::contents(buf)? {
+        PesContents::Payload(rest) => Ok(rest),
+        PesContents::Parsed(rest) => {
+            let payload = contents::payload_at(rest.of(buf))?;
+            Ok(Extent {
+                place: rest.place + payload.place,
+                length: payload.length,
+            })
+        }
     }
 }
 
@@ -60,10 +31,10 @@ pub fn payload_at(buf: &[u8]) -> PayloadRead
 pub fn payload(buf: &[u8]) -> &[u8]
     ensures { result.now ≡ payload_bytes buf.now }
 {
-    let PayloadRead::Done { place, length } = payload_at(buf) else {
-        return &buf[0..0];
+    let Ok(payload) = payload_at(buf) else {
+        return &[];
     };
-    part(buf, place, length)
+    payload.of(buf)
 }
 
 // Each reader answers of the bytes kept as the function of its name does, `head` as `pes::from_bytes`. Where the head is refused the
@@ -82,26 +53,26 @@ impl<'a> PesHeader<'a> {
     }
 
     // Whether the bytes begin with a head.
-    pub fn head(self) -> HeadRead
-        ensures { given_head result ≡ read_head self.entry.buf.now }
+    pub fn head(self) -> Result<(), Refusal>
+        ensures { given no_values result ≡ read_head self.entry.buf.now }
     {
         pes::from_bytes(self.buf)
     }
 
-    pub fn stream_id(self) -> StreamIdRead
-        ensures { given_stream_id result ≡ read_stream_id self.entry.buf.now }
+    pub fn stream_id(self) -> Result<StreamId, Refusal>
+        ensures { given stream_values result ≡ read_stream_id self.entry.buf.now }
     {
         pes::stream_id(self.buf)
     }
 
-    pub fn pes_packet_length(self) -> LengthRead
-        ensures { given_length result ≡ read_length self.entry.buf.now }
+    pub fn pes_packet_length(self) -> Result<PesLength, Refusal>
+        ensures { given length_values result ≡ read_length self.entry.buf.now }
     {
         pes::pes_packet_length(self.buf)
     }
 
-    pub fn contents(self) -> ContentsRead
-        ensures { given_contents result ≡ read_contents_part self.entry.buf.now }
+    pub fn contents(self) -> Result<PesContents, Refusal>
+        ensures { given contents_values result ≡ read_contents_part self.entry.buf.now }
     {
         pes::contents(self.buf)
     }
@@ -113,8 +84,8 @@ impl<'a> PesHeader<'a> {
         pes::contents_part(self.buf)
     }
 
-    pub fn payload_at(self) -> PayloadRead
-        ensures { given_payload result ≡ header_payload self.entry.buf.now }
+    pub fn payload_at(self) -> Result<Extent, Refusal>
+        ensures { given extent_values result ≡ header_payload self.entry.buf.now }
     {
         payload_at(self.buf)
     }
