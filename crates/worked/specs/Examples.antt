@@ -1,15 +1,11 @@
 -- The worked examples that the request marks to be proved, as one list.
-use Rattle.std.specs.Prelude.{◌≡◌, Bool, true, false, List, [], ◌∷◌, ℕ, length}
+use Rattle.std.specs.Prelude.{None, ◌≡◌, Bool, true, false, List, [], ◌∷◌, ℕ, length}
 use Rattle.bits.specs.Answer.{Answer, answer}
 use Rattle.bits.specs.Numbers.{done, bad_check_bits, header_past_buffer, fields_past_header, pts_dts_flags_invalid, marker_bit_not_set, too_long}
 use Rattle.timestamp.specs.Stamp.{pts_prefix, read_prefixed, likely_wrapped}
 use Rattle.contents.specs.Contents.{read_contents, read_pts_dts}
 use Rattle.writer.specs.declared.Route.{Route}
 use Rattle.writer.specs.declared.Times.{Times}
-use Rattle.writer.specs.declared.Escr.{Escr}
-use Rattle.writer.specs.declared.Rate.{Rate}
-use Rattle.writer.specs.declared.Byte.{Byte}
-use Rattle.writer.specs.declared.Crc.{Crc}
 use Rattle.writer.specs.declared.Unit.{Unit}
 use Rattle.writer.specs.Writer.{write_of}
 
@@ -38,11 +34,11 @@ video b t = record {
   copyright = false;
   original = false;
   times = t;
-  escr = Escr.Absent;
-  rate = Rate.Absent;
-  trick = Byte.Absent;
-  copy = Byte.Absent;
-  crc = Crc.Absent;
+  escr = None;
+  rate = None;
+  trick = None;
+  copy = None;
+  crc = None;
 }
 
 abbrev pub Holds : Example → Type 0
