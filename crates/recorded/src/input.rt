@@ -1,53 +1,64 @@
 // A line of the input: two hex digits to a byte, put together as they come.
-ghost use Rattle.std.specs.Prelude.{◌≤◌};
 
 // The most bytes of a query.
-pub const ROOM: usize = 256;
+const ROOM: usize = 256;
 
-// The count of digits of a line that is no query: no query has so many.
-const SPOILT: usize = 2 * ROOM + 1;
-
-// The number of a lower-case digit, 16 for any other byte.
-fn digit(b: u8) -> u8 {
+fn digit(b: u8) -> Option<u8> {
     match b {
-        b'0'..=b'9' => b - b'0',
-        b'a'..=b'f' => b - b'a' + 10,
-        _ => 16,
+        b'0'..=b'9' => Some(b - b'0'),
+        b'a'..=b'f' => Some(b - b'a' + 10),
+        _ => None,
     }
 }
 
-// The high digit of one byte with the low digit of another.
-fn joined(high: u8, low: u8) -> u8 {
-    high / 16 * 16 + low % 16
+// The line under way, and how many digits it has: none where it is spoilt, by what is no digit or by too many.
+#[derive(Drop)]
+pub struct Line {
+    bytes: [u8; ROOM],
+    digits: Option<usize>,
 }
 
-// Adds a digit to a line, and gives back how many it then has. A spoilt line stays one.
-pub fn push(line: &mut [u8; ROOM], digits: usize, b: u8) -> usize {
-    let d = digit(b);
-    if d > 15 {
-        return SPOILT;
+impl Line {
+    pub fn new() -> Line {
+        Line {
+            bytes: [0; ROOM],
+            digits: Some(0),
+        }
     }
-    if digits >= 2 * ROOM {
-        return SPOILT;
-    }
-    let i = digits / 2;
-    if digits % 2 == 0 {
-        line[i] = d * 16;
-    } else {
-        line[i] = joined(line[i], d);
-    }
-    digits + 1
-}
 
-// How many bytes the digits make, 0 where they make no query.
-pub fn whole(digits: usize) -> usize
-    ensures { result ≤ 256 }
-{
-    if digits > 2 * ROOM {
-        return 0;
+    pub fn is_empty(&self) -> bool {
+        self.digits == Some(0)
     }
-    if digits % 2 == 1 {
-        return 0;
+
+    // Begins the next line.
+    pub fn clear(&mut self) {
+        self.digits = Some(0);
     }
-    digits / 2
+
+    // Adds a digit.
+    pub fn push(&mut self, b: u8) {
+        self.digits = self.pushed(b);
+    }
+
+    // How many digits there are with one more.
+    fn pushed(&mut self, b: u8) -> Option<usize> {
+        let digits = self.digits?;
+        let digit = digit(b)?;
+        let byte = self.bytes.get_mut(digits / 2)?;
+        *byte = if digits % 2 == 0 {
+            digit << 4
+        } else {
+            *byte | digit
+        };
+        Some(digits + 1)
+    }
+
+    // The bytes that the digits make.
+    pub fn query(&self) -> Option<&[u8]> {
+        let digits = self.digits?;
+        if digits % 2 == 1 {
+            return None;
+        }
+        self.bytes.get(..digits / 2)
+    }
 }
