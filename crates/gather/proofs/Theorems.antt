@@ -1,7 +1,7 @@
 -- The crate's theorems that belong to no one function.
 -- Assumes nothing.
 use mathlib.Core.Path.{◌≡◌, refl, sym, ap, ◌∙◌}
-use mathlib.Core.Bool.{Bool, true, false}
+use mathlib.Core.Bool.{Bool, true, false, ◌||◌}
 use mathlib.Core.List.{List, []}
 use Prim.Native.Nat.{ℕ, ◌+◌, ◌≤◌, ◌<◌}
 use native.Mathlib.Omega.{arith}
@@ -9,61 +9,63 @@ use lib.Dec.{eqb}
 use lib.ListN.{length, get_or, take, drop, length-drop}
 use lib.Seq.{length-take-le}
 use borrow.Author.Tests.{ltb-false, eqb-true}
-use Rattle.bits.specs.Answer.{pick, part_at, placed_at, part_of}
+use Rattle.std.specs.Prelude.{Result, Ok, Err}
+use Rattle.bits.specs.Answer.{answer, pick, part_at, placed_at, part_of}
+use Rattle.bits.specs.Refused.{refused, given, no_values}
+use Rattle.bits.specs.declared.refusal.Refusal.{Refusal}
+use Rattle.bits.proofs.Bools.{neither-holds}
 use Rattle.bits.proofs.Checks.{first_of-off}
 use Rattle.bits.proofs.Parts.{part_in, length-placed, placed_before, placed-after}
-use Rattle.bits.proofs.Tests.{one_answer}
+use Rattle.bits.proofs.Refusals.{back_refusal, back_refusal-refused, given_one}
 use Rattle.packet.specs.Packet.{not_packet}
 use Rattle.pes_header.specs.Payload.{header_payload, payload_bytes}
 use Rattle.pes_header.proofs.Theorems.{payload-within}
 use Rattle.event_log.specs.declared.Event.{Event}
 use Rattle.gather.specs.declared.Gathering.{Gathering}
 use Rattle.gather.specs.declared.Gathered.{Gathered}
-use Rattle.gather.specs.declared.HeldRead.{HeldRead}
-use Rattle.gather.specs.declared.Verdict.{Verdict}
 use Rattle.gather.specs.Belongs.{own_place, own_bytes}
 use Rattle.gather.specs.Gather.{emptied, kept, added, not_gathered, gather_number, GatherOutcome}
-use Rattle.gather.specs.Gather.{store_number, given_gathered, gather_of, store_of, given_held, held_bytes}
+use Rattle.gather.specs.Gather.{store_number, given_gathered, gather_of, store_of, held_bytes}
+use Rattle.bits.proofs.Refusals.{refused_above}
 
 -- ---- one answer only: any two answers that meet a function's promise are equal
 
-verdict_of : ℕ → Verdict
-verdict_of n =
-    pick (eqb n 0) Verdict.Done
-    (pick (eqb n 1) Verdict.WrongLength (pick (eqb n 2) Verdict.NoSync (pick (eqb n 14) Verdict.OutOfRange Verdict.StoreFull)))
+-- a verdict is known by its number where that is neither 12 nor 13: no other is told with values
+module _ (n : ℕ) (h : eqb n 12 ≡ false) (k : eqb n 13 ≡ false) where
+  refusal-known : (q r : Refusal) → (refused q).number ≡ n → (refused r).number ≡ n → q ≡ r
+  unfolding back_refusal
+  refusal-known q r e f =
+      let m : back_refusal (refused q) ≡ back_refusal (refused r) = simp (e, f, h, k) in
+      sym (back_refusal-refused q) ∙ (m ∙ back_refusal-refused r)
 
-verdict_back : (v : Verdict) → verdict_of (store_number v) ≡ v
-unfolding verdict_of
-verdict_back Verdict.Done = refl
-verdict_back Verdict.WrongLength = refl
-verdict_back Verdict.NoSync = refl
-verdict_back Verdict.OutOfRange = refl
-verdict_back Verdict.StoreFull = refl
+  verdict-known : (v w : Result Unit Refusal) → store_number v ≡ n → store_number w ≡ n → v ≡ w
+  verdict-known (Ok x) (Ok y) e f = refl
+  verdict-known (Ok x) (Err r) e f = absurd (omega (arith, refused_above r))
+  verdict-known (Err q) (Ok y) e f = absurd (omega (arith, refused_above q))
+  verdict-known (Err q) (Err r) e f = ap Err (refusal-known q r e f)
 
-back : GatherOutcome → Gathered
-back o = record { verdict = verdict_of o.number; gathering = o.gathering }
+-- a call is answered by neither
+plain : ℕ → Bool
+plain n = eqb n 12 || eqb n 13
 
-back-given : (r : Gathered) → back (given_gathered r) ≡ r
-unfolding back
-back-given r = ap (λ (v : Verdict). record { verdict = v; gathering = r.gathering }) (verdict_back r.verdict)
+number-plain : (g : Gathering) (p : List ℕ) (e : Event) (s : List ℕ) → plain (gather_number g p e s) ≡ false
+unfolding plain gather_number not_gathered not_packet
+number-plain g p e s = grind arith
 
 -- a call: verdict and state, and the store's bytes after it
 pub one-gathered : (g : Gathering) (p : List ℕ) (e : Event) (s : List ℕ) (a b : Gathered) (x y : List ℕ)
     → (given_gathered a ≡ gather_of g p e s) × (x ≡ store_of g p e s) → (given_gathered b ≡ gather_of g p e s) × (y ≡ store_of g p e s) → (a ≡ b) × (x ≡ y)
-one-gathered g p e s a b x y h k = (one_answer given_gathered back back-given (gather_of g p e s) a b h.0 k.0, h.1 ∙ sym k.1)
+unfolding plain gather_of
+one-gathered g p e s a b x y h k =
+    let n = gather_number g p e s in
+    let d = neither-holds (eqb n 12) (eqb n 13) (number-plain g p e s) in
+    let v : a.verdict ≡ b.verdict
+    = verdict-known n d.0 d.1 a.verdict b.verdict (ap (λ (o : GatherOutcome). o.number) h.0) (ap (λ (o : GatherOutcome). o.number) k.0) in
+    let t : a.gathering ≡ b.gathering = ap (λ (o : GatherOutcome). o.gathering) (h.0 ∙ sym k.0) in
+    (λ i. record { verdict = v i; gathering = t i }, h.1 ∙ sym k.1)
 
-held_back : ℕ → HeldRead
-held_back n = pick (eqb n 0) HeldRead.Done (pick (eqb n 1) HeldRead.WrongLength (pick (eqb n 2) HeldRead.NoSync HeldRead.OutOfRange))
-
-held_back-given : (r : HeldRead) → held_back (given_held r) ≡ r
-unfolding held_back
-held_back-given HeldRead.Done = refl
-held_back-given HeldRead.WrongLength = refl
-held_back-given HeldRead.NoSync = refl
-held_back-given HeldRead.OutOfRange = refl
-
-pub one-held : (n : ℕ) (a b : HeldRead) → given_held a ≡ n → given_held b ≡ n → a ≡ b
-one-held = one_answer given_held held_back held_back-given
+pub one-held : (n : ℕ) (a b : Result Unit Refusal) → given no_values a ≡ answer n [] → given no_values b ≡ answer n [] → a ≡ b
+one-held n = given_one no_values (λ (vs : List ℕ). tt) (λ (x : Unit). refl) (answer n [])
 
 -- the bytes so far are determined as a list; their address is not, where a part is empty or both slices hold the same bytes
 pub one-bytes : (g : Gathering) (p s a b : List ℕ) → a ≡ held_bytes g p s → b ≡ held_bytes g p s → a ≡ b

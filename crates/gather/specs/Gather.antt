@@ -1,16 +1,17 @@
 -- The gathering store: what a call answers, the state after it, and the store's bytes.
-use Rattle.std.specs.Prelude.{◌≡◌, Bool, true, false, ◌||◌, List, [], ◌∷◌, ◌++◌, ℕ, ◌+◌, eqb, leb, ltb, length, get_or}
-use Rattle.bits.specs.Answer.{pick, Check, ◌gives◌, first_of, placed_at, part_at}
-use Rattle.bits.specs.Numbers.{done, wrong_length, no_sync, out_of_range, store_full}
+use Rattle.std.specs.Prelude.{◌≡◌, Bool, true, false, ◌||◌, List, [], ◌∷◌, ◌++◌, ℕ, ◌+◌, eqb, leb, ltb, length, get_or, Result, Ok, Err}
+use Rattle.bits.specs.Answer.{Answer, answer, pick, Check, ◌gives◌, unless, first_of, placed_at, part_at}
+use Rattle.bits.specs.Numbers.{done, out_of_range, store_full}
+use Rattle.bits.specs.Refused.{refused}
+use Rattle.bits.specs.declared.refusal.Refusal.{Refusal}
+use Rattle.bits.specs.declared.refusal.Refusal.TheVariants.{StoreFull}
 use Rattle.packet.specs.Packet.{not_packet}
 use Rattle.event_log.specs.declared.Event.{Event}
 use Rattle.event_log.specs.Entry.{start_stream, begin_packet, continue_packet, end_packet, continuity_error}
 use Rattle.gather.specs.declared.Lies.{Lies}
 use Rattle.gather.specs.declared.Lies.TheVariants.{Packet, Store}
 use Rattle.gather.specs.declared.Gathering.{Gathering}
-use Rattle.gather.specs.declared.Verdict.{Verdict}
 use Rattle.gather.specs.declared.Gathered.{Gathered}
-use Rattle.gather.specs.declared.HeldRead.{HeldRead}
 use Rattle.gather.specs.Belongs.{event_bytes, own_place, own_bytes}
 
 abbrev pub gathering : Bool → ℕ → Lies → Gathering
@@ -81,12 +82,9 @@ pub record GatherOutcome : Type 0 where
 abbrev pub gather_outcome : ℕ → Gathering → GatherOutcome
 gather_outcome n g = record { number = n; gathering = g }
 
-abbrev pub store_number : Verdict → ℕ
-store_number Verdict.Done = done
-store_number Verdict.WrongLength = wrong_length
-store_number Verdict.NoSync = no_sync
-store_number Verdict.OutOfRange = out_of_range
-store_number Verdict.StoreFull = store_full
+abbrev pub store_number : Result Unit Refusal → ℕ
+store_number (Ok x) = done
+store_number (Err r) = (refused r).number
 
 abbrev pub given_gathered : Gathered → GatherOutcome
 given_gathered r = gather_outcome (store_number r.verdict) r.gathering
@@ -103,12 +101,6 @@ unfoldable pub store_of : Gathering → List ℕ → Event → List ℕ → List
 store_of g p e s = pick (eqb (gather_number g p e s) done) (placed_at s (kept g e) (added g p e)) s
 
 -- ---- the bytes so far
-
-abbrev pub given_held : HeldRead → ℕ
-given_held HeldRead.Done = done
-given_held HeldRead.WrongLength = wrong_length
-given_held HeldRead.NoSync = no_sync
-given_held HeldRead.OutOfRange = out_of_range
 
 -- 1, 2, 14 in this order
 unfoldable pub not_read : Gathering → List ℕ → List ℕ → List Check
@@ -132,10 +124,22 @@ held_bytes g p s = pick (eqb (read_of g p s) done) (lying g.lies g.count p s) []
 abbrev pub CallStands : Gathering → List ℕ → Event → List ℕ → Type 0
 CallStands g p e s = (length p ≡ 188) × (get_or p 0 0 ≡ 0x47) × (wrong_event e ≡ false) × (wrong_gathering g (length s) ≡ false)
 
--- the state after an event of a kind that adds nothing
-unfoldable pub rested : Gathering → ℕ → Gathering
-rested g k = pick (eqb k start_stream) g (pick (eqb k continuity_error) emptied (gathering false g.count Store))
+-- an event's kind, and a state, where they are not refused
+abbrev pub event_kind : Event → Answer
+event_kind e = unless (wrong_event e gives out_of_range ∷ []) (answer done (e.kind ∷ []))
 
--- so many bytes that stay and those that are added: an open unit, or 20
-unfoldable pub appended : ℕ → Lies → List ℕ → List ℕ → GatherOutcome
-appended k l xs s = pick (leb (k + length xs) (length s)) (gather_outcome done (gathering true (k + length xs) l)) (gather_outcome store_full emptied)
+abbrev pub standing : Gathering → ℕ → Answer
+standing g room = unless (wrong_gathering g room gives out_of_range ∷ []) (answer done [])
+
+-- so many bytes that stay and those that are added: how many there are then, or 20
+abbrev pub appended : ℕ → List ℕ → List ℕ → Result ℕ Refusal
+appended k xs s = pick (leb (k + length xs) (length s)) (Ok (k + length xs)) (Err StoreFull)
+
+-- the state after an event, or 20
+abbrev pub applied : Gathering → List ℕ → Event → List ℕ → Result Gathering Refusal
+applied g p e s = pick (leb (kept g e + length (added g p e)) (length s)) (Ok (next_gathering g p e)) (Err StoreFull)
+
+-- the state after an event, or a refusal, as the outcome of a call in a state
+abbrev pub given_next : Gathering → Result Gathering Refusal → GatherOutcome
+given_next g (Ok g') = gather_outcome done g'
+given_next g (Err r) = gather_outcome (refused r).number (pick (eqb (refused r).number store_full) emptied g)

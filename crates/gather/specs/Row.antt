@@ -1,6 +1,6 @@
 -- A gathering state as the numbers that a host keeps, in this order: open 0 or 1; the count; where the bytes lie, a place of the packet or
 -- 255 for the store.
-use Rattle.std.specs.Prelude.{Bool, true, List, [], ◌∷◌, ◌++◌, ℕ, eqb, ltb, get_or}
+use Rattle.std.specs.Prelude.{Bool, true, List, [], ◌∷◌, ◌++◌, ℕ, eqb, ltb, get_or, Option, Some, None}
 use Rattle.bits.specs.Answer.{Answer, answer, pick, truth, Check, ◌gives◌, first_of}
 use Rattle.bits.specs.Numbers.{done, out_of_range, store_full}
 use Rattle.packet.specs.Packet.{not_packet}
@@ -8,8 +8,6 @@ use Rattle.event_log.specs.declared.Event.{Event}
 use Rattle.gather.specs.declared.Lies.{Lies}
 use Rattle.gather.specs.declared.Lies.TheVariants.{Packet, Store}
 use Rattle.gather.specs.declared.Gathering.{Gathering}
-use Rattle.gather.specs.declared.row.RowRead.{RowRead}
-use Rattle.gather.specs.declared.row.RowRead.TheVariants.{Is, Stray}
 use Rattle.gather.specs.Gather.{gathering, gather_of, store_of, read_of}
 
 -- ---- where the bytes lie
@@ -24,8 +22,8 @@ lies_number Store = 255
 -- ---- the row
 
 -- THE GATHERING STATE THAT A ROW STANDS FOR, if for one: open is 0 or 1
-unfoldable pub gathering_of : List ℕ → RowRead
-gathering_of xs = pick (ltb 1 (get_or xs 0 0)) Stray (Is (gathering (eqb (get_or xs 0 0) 1) (get_or xs 1 0) (lies_of (get_or xs 2 0))))
+unfoldable pub gathering_of : List ℕ → Option Gathering
+gathering_of xs = pick (ltb 1 (get_or xs 0 0)) None (Some (gathering (eqb (get_or xs 0 0) 1) (get_or xs 1 0) (lies_of (get_or xs 2 0))))
 
 -- THE ROW OF A GATHERING STATE
 unfoldable pub gathering_row : Gathering → List ℕ
@@ -50,9 +48,9 @@ unfoldable pub not_state : List ℕ → List Check
 not_state p = not_packet p ++ (true gives out_of_range ∷ [])
 
 -- a refusal, 20 apart, leaves the row as it was lent
-abbrev pub gather_by : RowRead → List ℕ → List ℕ → Event → List ℕ → RowGather
-gather_by Stray xs p e s = row_gather (first_of (not_state p)) xs s
-gather_by (Is g) xs p e s =
+abbrev pub gather_by : Option Gathering → List ℕ → List ℕ → Event → List ℕ → RowGather
+gather_by None xs p e s = row_gather (first_of (not_state p)) xs s
+gather_by (Some g) xs p e s =
     row_gather (gather_of g p e s).number (pick (moves (gather_of g p e s).number) (gathering_row (gather_of g p e s).gathering) xs) (store_of g p e s)
 
 unfoldable pub row_gather_of : List ℕ → List ℕ → Event → List ℕ → RowGather
@@ -67,9 +65,9 @@ part_values Store n = 1 ∷ 0 ∷ n ∷ []
 abbrev pub held_answer : Gathering → List ℕ → List ℕ → Answer
 held_answer g p s = pick (eqb (read_of g p s) done) (answer done (part_values g.lies g.count)) (answer (read_of g p s) [])
 
-abbrev pub held_by : RowRead → List ℕ → List ℕ → Answer
-held_by Stray p s = answer (first_of (not_state p)) []
-held_by (Is g) p s = held_answer g p s
+abbrev pub held_by : Option Gathering → List ℕ → List ℕ → Answer
+held_by None p s = answer (first_of (not_state p)) []
+held_by (Some g) p s = held_answer g p s
 
 unfoldable pub row_held : List ℕ → List ℕ → List ℕ → Answer
 row_held xs p s = held_by (gathering_of xs) p s

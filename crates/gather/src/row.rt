@@ -5,51 +5,47 @@ ghost use Rattle.gather.specs.Row.{lies_of, lies_number, gathering_of, gathering
 
 use crate::{Gathering, Lies};
 
+impl From<u64> for Lies {
+    ghost from_gives = { λ n lies. lies ≡ lies_of n };
+
+    fn from(n: u64) -> Lies {
+        if n == 255 {
+            return Lies::Store;
+        }
+        Lies::Packet(n as usize)
+    }
+}
+
+impl From<Lies> for u64 {
+    ghost from_gives = { λ lies n. n ≡ lies_number lies };
+
+    fn from(lies: Lies) -> u64 {
+        match lies {
+            Lies::Packet(place) => place as u64,
+            Lies::Store => 255,
+        }
+    }
+}
+
 // The gathering state that a row stands for, if for one.
-#[derive(Clone, Copy)]
-pub enum RowRead {
-    Is(Gathering),
-    Stray,
-}
-
-fn lies_of(n: u64) -> Lies
-    ensures { result ≡ lies_of n }
-{
-    if n == 255 {
-        return Lies::Store;
-    }
-    Lies::Packet(n as usize)
-}
-
-fn lies_number(lies: Lies) -> u64
-    ensures { result ≡ lies_number lies }
-{
-    match lies {
-        Lies::Packet(place) => place as u64,
-        Lies::Store => 255,
-    }
-}
-
-pub fn read(row: &[u64; 3]) -> RowRead
+#[tactic(auto, unfolding(crate::specs::Row::gathering_of))]
+pub fn read(row: &[u64; 3]) -> Option<Gathering>
     ensures { result ≡ gathering_of row.now }
 {
-    let opened = row[0];
-    let count = row[1];
-    let lies = row[2];
+    let [opened, count, lies] = *row;
     if 1 < opened {
-        return RowRead::Stray;
+        return None;
     }
-    let l = lies_of(lies);
-    RowRead::Is(Gathering {
+    Some(Gathering {
         opened: opened == 1,
         count: count as usize,
-        lies: l,
+        lies: Lies::from(lies),
     })
 }
 
+#[tactic(auto, unfolding(crate::specs::Row::gathering_row))]
 pub fn write(g: Gathering, row: &mut [u64; 3])
     ensures { row.new ≡ gathering_row g }
 {
-    let l = g.lies;
-    *row = [g.opened as u64, g.count as u64, lies_number(l)];
+    *row = [u64::from(g.opened), g.count as u64, u64::from(g.lies)];
 }
