@@ -1,37 +1,16 @@
 // The gathering store. The host keeps a state as a row of numbers and lends it (gather::row).
 ghost use Rattle.std.specs.Prelude.{◌≡◌, [], ◌∷◌};
+ghost use Rattle.bits.specs.Refused.{given};
 ghost use Rattle.event_log.specs.Entry.{event};
-ghost use Rattle.gather.specs.Gather.{emptied, store_number};
-ghost use Rattle.gather.specs.Row.{gathering_row, moves, row_gather, row_gather_of, row_held};
+ghost use Rattle.gather.specs.Gather.{emptied};
+ghost use Rattle.gather.specs.Row.{gathering_row, part_values, row_gather, row_gather_of, row_held};
 ghost use Rattle.host.specs.Reports.{Reports};
 
 use crate::strayed;
+use bits::Refusal;
 use event_log::Event;
-use gather::row::RowRead;
-use gather::{Gathering, HeldRead, Lies, Verdict, row};
-use host::numbers::{DONE, NO_SYNC, OUT_OF_RANGE, STORE_FULL, WRONG_LENGTH};
-
-fn number_of(v: Verdict) -> u32
-    ensures { result ≡ store_number v }
-{
-    match v {
-        Verdict::Done => DONE,
-        Verdict::WrongLength => WRONG_LENGTH,
-        Verdict::NoSync => NO_SYNC,
-        Verdict::OutOfRange => OUT_OF_RANGE,
-        Verdict::StoreFull => STORE_FULL,
-    }
-}
-
-// 0 and 20 change the state.
-fn moves_state(number: u32) -> bool
-    ensures { result ≡ moves number }
-{
-    if number == 0 {
-        return true;
-    }
-    number == STORE_FULL
-}
+use gather::{Gathering, Lies, row};
+use host::told::{Told, report, report_three, word};
 
 // The row of a state before its first event, with no unit (Gathering::new): 0, 0, 255
 pub fn cmv_gather_fresh(state: &mut [u64; 3])
@@ -42,6 +21,7 @@ pub fn cmv_gather_fresh(state: &mut [u64; 3])
 
 // gather::gather over a lent row, of an event by its kind, place and length. On 0 and on 20 the row of the next state is written, on any
 // other refusal nothing is.
+#[tactic(auto, using(crate::proofs::Rows::gather_laws), unfolding(gather::specs::Row::row_gather_of))]
 pub fn cmv_gather(
     state: &mut [u64; 3],
     packet: &[u8],
@@ -53,25 +33,51 @@ pub fn cmv_gather(
     ensures { row_gather result state.new store.new
         ≡ row_gather_of state.old packet.now (event kind 0 place length) store.old }
 {
-    match row::read(state) {
-        RowRead::Is(g) => {
-            let event = Event {
-                kind,
-                index: 0,
-                place,
-                length,
-            };
-            let r = gather::gather(g, packet, event, store);
-            let v = r.verdict;
-            let number = number_of(v);
-            if moves_state(number) {
-                let n = r.gathering;
-                row::write(n, state);
-            }
-            number
+    let Some(g) = row::read(state) else {
+        return word(strayed(packet));
+    };
+    let event = Event {
+        kind,
+        index: 0,
+        place,
+        length,
+    };
+    let r = gather::gather(g, packet, event, store);
+    match r.verdict {
+        Ok(()) | Err(Refusal::StoreFull) => {
+            row::write(r.gathering, state);
+            report(r.verdict)
         }
-        RowRead::Stray => strayed(packet),
+        Err(e) => word(e),
     }
+}
+
+// The bytes of a state, as a part of one of two slices.
+#[derive(Clone, Copy)]
+struct Bytes(Gathering);
+
+impl Told<3> for Bytes {
+    // of which slice, 0 the packet and 1 the store; its place; its length
+    ghost values = { λ h. part_values h.0.lies h.0.count };
+
+    fn told(self) -> [u64; 3] {
+        let length = self.0.count as u64;
+        match self.0.lies {
+            Lies::Packet(place) => [0, place as u64, length],
+            Lies::Store => [1, 0, length],
+        }
+    }
+}
+
+#[tactic(auto, using(crate::proofs::Rows::refused_alike), unfolding(gather::specs::Row::row_held))]
+fn held(state: &[u64; 3], packet: &[u8], store: &[u8]) -> Result<Bytes, Refusal>
+    ensures { given (λ h. part_values h.0.lies h.0.count) result ≡ row_held state.now packet.now store.now }
+{
+    let Some(g) = row::read(state) else {
+        return Err(strayed(packet));
+    };
+    gather::held(g, packet, store)?;
+    Ok(Bytes(g))
 }
 
 // The bytes so far (gather::held and gather::bytes): of which slice they are a part, 0 the packet and 1 the store, and the place and
@@ -88,30 +94,5 @@ pub fn cmv_gather_bytes(
         (slice.old ∷ place.old ∷ length.old ∷ [])
         (slice.new ∷ place.new ∷ length.new ∷ []) }
 {
-    match row::read(state) {
-        RowRead::Is(g) => {
-            let l = g.lies;
-            match gather::held(g, packet, store) {
-                HeldRead::Done => {
-                    *length = g.count as u64;
-                    match l {
-                        Lies::Packet(at) => {
-                            *slice = 0;
-                            *place = at as u64;
-                            DONE
-                        }
-                        Lies::Store => {
-                            *slice = 1;
-                            *place = 0;
-                            DONE
-                        }
-                    }
-                }
-                HeldRead::WrongLength => WRONG_LENGTH,
-                HeldRead::NoSync => NO_SYNC,
-                HeldRead::OutOfRange => OUT_OF_RANGE,
-            }
-        }
-        RowRead::Stray => strayed(packet),
-    }
+    report_three(held(state, packet, store), slice, place, length)
 }

@@ -1,16 +1,17 @@
 // The event machine and its log. The host keeps a state as a row of numbers and lends it (machine::row).
 ghost use Rattle.std.specs.Prelude.{◌≡◌, [], ◌∷◌};
-ghost use Rattle.event_log.specs.Entry.{read_entry};
+ghost use Rattle.event_log.specs.Entry.{event_values, read_entry};
 ghost use Rattle.machine.specs.declared.Mode.{Mode};
 ghost use Rattle.machine.specs.Step.{fresh};
 ghost use Rattle.host.specs.Reports.{Reports};
 ghost use Rattle.machine.specs.Row.{row_of, row_step, row_step_of, row_run, row_run_of};
 
-use crate::{step_number, strayed};
-use event_log::EntryRead;
-use host::numbers::{DONE, OUT_OF_RANGE, WRONG_LENGTH};
-use machine::row::RowRead;
+use crate::strayed;
+use bits::Refusal;
+use event_log::Event;
+use host::told::{DONE, Told, report, report_four, word};
 use machine::{Machine, row};
+use packet::SIZE;
 
 // The row of a machine before its first packet, with an empty log, in the crate's mode (Machine::new): 0, 0, 255, 0, 0, 0
 pub fn cmv_machine_fresh(state: &mut [u64; 7])
@@ -27,26 +28,26 @@ pub fn cmv_machine_standard(state: &mut [u64; 7])
 }
 
 // machine::step over a lent row
+#[tactic(auto, using(crate::proofs::Rows::step_laws), unfolding(machine::specs::Row::row_step_of))]
 pub fn cmv_machine_step(state: &mut [u64; 7], packet: &[u8], log: &mut [u8]) -> u32
     ensures { row_step result state.new log.new
         ≡ row_step_of state.old packet.now log.old }
 {
-    match row::read(state) {
-        RowRead::Is(m) => {
-            let s = machine::step(m, packet, log);
-            let v = s.verdict;
-            let number = step_number(v);
-            if number == 0 {
-                let n = s.machine;
-                row::write(n, state);
-            }
-            number
+    let Some(m) = row::read(state) else {
+        return word(strayed(packet));
+    };
+    let s = machine::step(m, packet, log);
+    match s.verdict {
+        Ok(()) => {
+            row::write(s.machine, state);
+            DONE
         }
-        RowRead::Stray => strayed(packet),
+        Err(e) => word(e),
     }
 }
 
 // machine::run over a lent row: how many packets were taken, and the number that the next one was refused with, 0 where all were taken
+#[tactic(auto, using(crate::proofs::Rows::run_laws), unfolding(machine::specs::Row::row_run_of, machine::specs::Run::not_run))]
 pub fn cmv_machine_run(
     state: &mut [u64; 7],
     bytes: &[u8],
@@ -57,26 +58,39 @@ pub fn cmv_machine_run(
     ensures { row_run result state.new log.new taken.new ended.new
         ≡ row_run_of state.old bytes.now log.old taken.old ended.old }
 {
-    match row::read(state) {
-        RowRead::Is(m) => {
-            let r = machine::run(m, bytes, log);
-            let v = r.verdict;
-            let word = step_number(v);
-            if word == 0 {
-                let n = r.machine;
-                let e = r.ended;
-                row::write(n, state);
-                *taken = r.packets as u64;
-                *ended = step_number(e) as u64;
-            }
-            word
+    let Some(m) = row::read(state) else {
+        if bytes.len() % SIZE != 0 {
+            return word(Refusal::WrongLength);
         }
-        RowRead::Stray => {
-            if bytes.len() % 188 != 0 {
-                return WRONG_LENGTH;
-            }
-            OUT_OF_RANGE
+        return word(Refusal::OutOfRange);
+    };
+    let r = machine::run(m, bytes, log);
+    match r.verdict {
+        Ok(()) => {
+            row::write(r.machine, state);
+            *taken = r.packets as u64;
+            *ended = report(r.ended) as u64;
+            DONE
         }
+        Err(e) => word(e),
+    }
+}
+
+// An entry of the log.
+#[derive(Clone, Copy)]
+struct Entry(Event);
+
+impl Told<4> for Entry {
+    ghost values = { λ entry. event_values entry.0 };
+
+    fn told(self) -> [u64; 4] {
+        let e = self.0;
+        [
+            e.kind as u64,
+            e.index as u64,
+            e.place as u64,
+            e.length as u64,
+        ]
     }
 }
 
@@ -93,14 +107,6 @@ pub fn cmv_log_entry_at(
         (kind.old ∷ index.old ∷ place.old ∷ length.old ∷ [])
         (kind.new ∷ index.new ∷ place.new ∷ length.new ∷ []) }
 {
-    match event_log::entry_at(log, at) {
-        EntryRead::Done(e) => {
-            *kind = e.kind as u64;
-            *index = e.index as u64;
-            *place = e.place as u64;
-            *length = e.length as u64;
-            DONE
-        }
-        EntryRead::OutOfRange => OUT_OF_RANGE,
-    }
+    let entry = event_log::entry_at(log, at).map(Entry);
+    report_four(entry, kind, index, place, length)
 }

@@ -1,11 +1,23 @@
 // The writer. The host lends a unit as a row of numbers (writer::row).
 ghost use Rattle.std.specs.Prelude.{◌≡◌, [], ◌∷◌};
+ghost use Rattle.bits.specs.Refused.{given, number_values};
 ghost use Rattle.writer.specs.Row.{route, row_write_of, row_output_of};
 ghost use Rattle.host.specs.Reports.{Reports};
 
-use host::numbers::{BAD_FIELD, DONE, NO_ROOM, OUT_OF_RANGE, TOO_LONG};
-use writer::row::RowRead;
-use writer::{Route, Written, row};
+use bits::Refusal;
+use host::told::report_one;
+use writer::{Route, row};
+
+// The number of packets that the unit was written as.
+#[tactic(auto, unfolding(writer::specs::Row::row_write_of, writer::specs::Row::row_output_of))]
+fn written(route: Route, unit: &[u64; 20], payload: &[u8], out: &mut [u8]) -> Result<u64, Refusal>
+    ensures { (given number_values result ≡ row_write_of route unit.now payload.now out.old)
+        × (out.new ≡ row_output_of route unit.now payload.now out.old) }
+{
+    let unit = row::read(unit).ok_or(Refusal::OutOfRange)?;
+    let count = writer::write(route, unit, payload, out)?;
+    Ok(count as u64)
+}
 
 // writer::write of the unit that a row stands for: on 0 the number of packets is reported. A row that stands for no unit is 14, before
 // what the writer refuses.
@@ -21,16 +33,5 @@ pub fn cmv_write(
         (count.old ∷ []) (count.new ∷ [])
         × (out.new ≡ row_output_of (route pid counter) unit.now payload.now out.old) }
 {
-    match row::read(unit) {
-        RowRead::Is(u) => match writer::write(Route { pid, counter }, u, payload, out) {
-            Written::Done(n) => {
-                *count = n as u64;
-                DONE
-            }
-            Written::BadField => BAD_FIELD,
-            Written::TooLong => TOO_LONG,
-            Written::NoRoom => NO_ROOM,
-        },
-        RowRead::Stray => OUT_OF_RANGE,
-    }
+    report_one(written(Route { pid, counter }, unit, payload, out), count)
 }
