@@ -7,12 +7,13 @@ ghost use Rattle.machine.specs.Step.{verdict_number, step_of, log_of};
 ghost use Rattle.machine.specs.Run.{reported, report_of, ran_log};
 ghost use Rattle.gather.specs.Gather.{store_number, gather_of, store_of};
 
+use bits::Refusal;
 use event_log::Event;
 use gather::Gathering;
-use machine::{Machine, Report, Verdict};
+use machine::{Machine, Report};
 
 // One packet: the lent machine is advanced. A refusal leaves it.
-pub fn step_in_place(m: &mut Machine, packet: &[u8], log: &mut [u8]) -> Verdict
+pub fn step_in_place(m: &mut Machine, packet: &[u8], log: &mut [u8]) -> Result<(), Refusal>
     ensures { (verdict_number result ≡ (step_of m.old packet.now log.old).number)
         × (m.new ≡ (step_of m.old packet.now log.old).machine)
         × (log.new ≡ log_of m.old packet.now log.old) }
@@ -39,7 +40,7 @@ pub fn gather_in_place(
     packet: &[u8],
     event: Event,
     store: &mut [u8],
-) -> gather::Verdict
+) -> Result<(), Refusal>
     ensures { (store_number result ≡ (gather_of g.old packet.now event store.old).number)
         × (g.new ≡ (gather_of g.old packet.now event store.old).gathering)
         × (store.new ≡ store_of g.old packet.now event store.old) }
