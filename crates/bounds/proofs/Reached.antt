@@ -8,6 +8,8 @@ use native.Mathlib.Omega.{arith}
 use lib.ListN.{length, get_or, drop, replicate, length-append}
 use lib.Seq.{sets, length-sets}
 use borrow.Author.Tests.{eq-eqb, ne_eqb}
+use Rattle.std.specs.Prelude.{Option, None, Some}
+use Rattle.control.specs.declared.ContinuityCounter.{ContinuityCounter}
 use Rattle.bits.specs.Answer.{pick, truth, All}
 use Rattle.bits.specs.Field.{bit, field}
 use Rattle.bits.specs.Numbers.{done}
@@ -26,8 +28,6 @@ use Rattle.machine.specs.declared.Mode.{Mode}
 use Rattle.machine.specs.declared.Mode.TheVariants.{Crate, Standard}
 use Rattle.machine.specs.declared.Phase.{Phase}
 use Rattle.machine.specs.declared.Phase.TheVariants.{Begin, Started, IgnoreRest}
-use Rattle.machine.specs.declared.Last.{Last}
-use Rattle.machine.specs.declared.Last.TheVariants.{Nothing, At}
 use Rattle.machine.specs.declared.Repeat.{Repeat}
 use Rattle.machine.specs.declared.Continuity.{Continuity}
 use Rattle.machine.specs.declared.Continuity.TheVariants.{GoesOn, Breaks}
@@ -111,10 +111,10 @@ module _ (b : Bool) (c : ℕ) where
 
 -- a unit is open, no StartStream is left to be given, and the last counter was that of c
 abbrev Going : ℕ → State → Type 0
-Going c s = (s.phase ≡ Started) × (left_in s ≡ 0) × (s.last ≡ At (as_counter (c % 16)))
+Going c s = (s.phase ≡ Started) × (left_in s ≡ 0) × (s.last ≡ Some (as_counter (c % 16)))
 
-last_of_lem : (b : Bool) (c : ℕ) (s : State) → (next s (eventful b c)).last ≡ At (as_counter (c % 16))
-last_of_lem b c s = last-is s (eventful b c) ∙ ap (λ (n : ℕ). At (as_counter n)) (counter-of b c)
+last_of_lem : (b : Bool) (c : ℕ) (s : State) → (next s (eventful b c)).last ≡ Some (as_counter (c % 16))
+last_of_lem b c s = last-is s (eventful b c) ∙ ap (λ (n : ℕ). Some (as_counter n)) (counter-of b c)
 
 module _ (b : Bool) (c : ℕ) (s : State) (g : Going c s) where
   abbrev this : List ℕ
@@ -122,7 +122,7 @@ module _ (b : Bool) (c : ℕ) (s : State) (g : Going c s) where
 
   goes : continuity s this ≡ GoesOn
   goes =
-      ap (λ (l : Last). continuity_by s.mode l s.again this) g.2
+      ap (λ (l : Option ContinuityCounter). continuity_by s.mode l s.again this) g.2
       ∙ on-next s.mode (as_counter (c % 16)) s.again this (payload_of b (suc c))
       (ap (λ (n : ℕ). compare n (c % 16)) (counter-of b (suc c)) ∙ sym (compared-next (suc c % 16) (c % 16) (omega arith)))
 
@@ -227,28 +227,28 @@ module _ (b : Bool) (n : ℕ) (r : Repeat) where
       let e = counter-of b (n + 2) in
       sym (compared_jump (counter_field (eventful b (n + 2))) n (λ h. omega (arith, h, e)) (λ h. omega (arith, h, e)))
 
-  breaks : continuity_by Standard (At (as_counter n)) r (eventful b (n + 2)) ≡ Breaks
+  breaks : continuity_by Standard (Some (as_counter n)) r (eventful b (n + 2)) ≡ Breaks
   unfolding continuity_by
   breaks = rw (no-bit, has-flag b (n + 2), jumps) refl
 
 -- a start there calls for StartStream, and has three events
 module _ (i : ℕ) (r : Repeat) where
-  abbrev Three : Mode → Bool → Last → Phase → Type 0
+  abbrev Three : Mode → Bool → Option ContinuityCounter → Phase → Type 0
   Three mo a la ph =
       (calls (continuity (state mo ph la r a) (eventful true (breaking la))) true ≡ true) × (length (events_of i (state mo ph la r a) (eventful true (breaking la))) ≡ 3)
 
-  three : (mo : Mode) (a : Bool) (la : Last) (ph : Phase) → more mo a la ph ≡ 1 → Three mo a la ph
+  three : (mo : Mode) (a : Bool) (la : Option ContinuityCounter) (ph : Phase) → more mo a la ph ≡ 1 → Three mo a la ph
   unfolding announcement announces
   three Crate a la ph h = absurd (omega arith)
   three Standard true la ph h = absurd (omega arith)
-  three Standard false Nothing Begin h = absurd (omega arith)
-  three Standard false Nothing IgnoreRest h = absurd (omega arith)
-  three Standard false Nothing Started h =
-      let e = on-first Standard Nothing r (eventful true 0) refl in
-      rw (events-are i (state Standard Started Nothing r false) (eventful true 0), e, start_of_lem true 0) (refl, omega (arith, begun-of true 0 i))
-  three Standard false (At c) ph h =
+  three Standard false None Begin h = absurd (omega arith)
+  three Standard false None IgnoreRest h = absurd (omega arith)
+  three Standard false None Started h =
+      let e = on-first Standard None r (eventful true 0) refl in
+      rw (events-are i (state Standard Started None r false) (eventful true 0), e, start_of_lem true 0) (refl, omega (arith, begun-of true 0 i))
+  three Standard false (Some c) ph h =
       let n = c.val + 2 in
-      rw (events-are i (state Standard ph (At c) r false) (eventful true n), breaks true c.val r, start_of_lem true n) (refl, omega (arith, begun-of true n i))
+      rw (events-are i (state Standard ph (Some c) r false) (eventful true n), breaks true c.val r, start_of_lem true n) (refl, omega (arith, begun-of true n i))
 
 -- SO `more` ALLOWS NO ENTRY TOO MANY
 pub reached-late : (i : ℕ) (t : State) (s p : ℕ) → more_in t ≡ 1 → 1 ≤ s → s ≤ p → Reaches t i p s (p + s + 1) (late t.last s p)

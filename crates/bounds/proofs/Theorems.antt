@@ -1,4 +1,4 @@
--- At most p + s events, and one more where `more` says so; and the log that is enough for them.
+-- Some most p + s events, and one more where `more` says so; and the log that is enough for them.
 -- Assumes nothing.
 use mathlib.Core.Path.{◌≡◌, refl, ap}
 use mathlib.Core.Bool.{Bool, true, false, ◌||◌}
@@ -8,6 +8,8 @@ use native.Mathlib.Omega.{arith}
 use lib.ListN.{length, get_or, length-append}
 use lib.Seq.{sets, length-sets}
 use lib.Dec.{eqb}
+use Rattle.std.specs.Prelude.{Option, None, Some}
+use Rattle.control.specs.declared.ContinuityCounter.{ContinuityCounter}
 use Rattle.bits.specs.Answer.{pick, All}
 use Rattle.bits.specs.Numbers.{done}
 use Rattle.bits.proofs.Bools.{pick_same}
@@ -18,8 +20,6 @@ use Rattle.machine.specs.declared.Mode.{Mode}
 use Rattle.machine.specs.declared.Mode.TheVariants.{Crate, Standard}
 use Rattle.machine.specs.declared.Phase.{Phase}
 use Rattle.machine.specs.declared.Phase.TheVariants.{Begin, Started, IgnoreRest}
-use Rattle.machine.specs.declared.Last.{Last}
-use Rattle.machine.specs.declared.Last.TheVariants.{Nothing, At}
 use Rattle.machine.specs.declared.Continuity.{Continuity}
 use Rattle.machine.specs.declared.Continuity.TheVariants.{GoesOn}
 use Rattle.machine.specs.declared.Machine.{Machine}
@@ -35,16 +35,16 @@ use Rattle.bounds.specs.Room.{in_unit, more, more_in, log_bytes, bytes_for, answ
 
 -- ---- one packet
 
-more-one : (mo : Mode) (a : Bool) (la : Last) (ph : Phase) → more mo a la ph ≤ 1
+more-one : (mo : Mode) (a : Bool) (la : Option ContinuityCounter) (ph : Phase) → more mo a la ph ≤ 1
 more-one Crate a la ph = omega arith
 more-one Standard true la ph = omega arith
-more-one Standard false Nothing Begin = omega arith
-more-one Standard false Nothing Started = omega arith
-more-one Standard false Nothing IgnoreRest = omega arith
-more-one Standard false (At c) ph = omega arith
+more-one Standard false None Begin = omega arith
+more-one Standard false None Started = omega arith
+more-one Standard false None IgnoreRest = omega arith
+more-one Standard false (Some c) ph = omega arith
 
 -- a StartStream that is given is not needed again
-module _ (c : Continuity) (s : Bool) (ph : Phase) (i : ℕ) (p : List ℕ) (la : Last) (ph' : Phase) where
+module _ (c : Continuity) (s : Bool) (ph : Phase) (i : ℕ) (p : List ℕ) (la : Option ContinuityCounter) (ph' : Phase) where
   -- where one more is needed
   by_one : length (announcement (due Standard c ph false s) i ++ happened c s ph i p) + more Standard (due Standard c ph false s) la ph' ≤ pick s 2 1 + 1
   by_one = go (due Standard c ph false s) (count-all Standard c ph false s i p)
@@ -55,7 +55,7 @@ module _ (c : Continuity) (s : Bool) (ph : Phase) (i : ℕ) (p : List ℕ) (la :
       go false h = omega (arith, h, more-one Standard false la ph')
 
 -- the first packet of a stream, where no unit is open: a StartStream with it comes in place of another event
-module _ (i : ℕ) (p : List ℕ) (la : Last) (ph' : Phase) where
+module _ (i : ℕ) (p : List ℕ) (la : Option ContinuityCounter) (ph' : Phase) where
   at_first : (s : Bool) (ph : Phase) → in_unit ph ≡ 0
       → length (announcement (due Standard GoesOn ph false s) i ++ happened GoesOn s ph i p) + more Standard (due Standard GoesOn ph false s) la ph' ≤ pick s 2 1
   unfolding announcement continued
@@ -66,14 +66,14 @@ module _ (i : ℕ) (p : List ℕ) (la : Last) (ph' : Phase) where
   at_first false Started h = absurd (omega arith)
   at_first false IgnoreRest h = omega (arith, more-one Standard false la ph')
 
-  bounded : (mo : Mode) (a : Bool) (l : Last) (ph : Phase) (c : Continuity) (s : Bool) → (l ≡ Nothing → c ≡ GoesOn)
+  bounded : (mo : Mode) (a : Bool) (l : Option ContinuityCounter) (ph : Phase) (c : Continuity) (s : Bool) → (l ≡ None → c ≡ GoesOn)
       → length (announcement (due mo c ph a s) i ++ happened c s ph i p) + more mo (a || due mo c ph a s) la ph' ≤ pick s 2 1 + more mo a l ph
   bounded Crate a l ph c s h = omega (arith, count-all Crate c ph a s i p, pick_same {A = ℕ} (due Crate c ph a s) 0)
   bounded Standard true l ph c s h = omega (arith, count-all Standard c ph true s i p)
-  bounded Standard false (At k) ph c s h = omega (arith, by_one c s ph i p la ph')
-  bounded Standard false Nothing Begin c s h = rw (h refl) (omega (arith, at_first s Begin refl))
-  bounded Standard false Nothing Started c s h = omega (arith, by_one c s Started i p la ph')
-  bounded Standard false Nothing IgnoreRest c s h = rw (h refl) (omega (arith, at_first s IgnoreRest refl))
+  bounded Standard false (Some k) ph c s h = omega (arith, by_one c s ph i p la ph')
+  bounded Standard false None Begin c s h = rw (h refl) (omega (arith, at_first s Begin refl))
+  bounded Standard false None Started c s h = omega (arith, by_one c s Started i p la ph')
+  bounded Standard false None IgnoreRest c s h = rw (h refl) (omega (arith, at_first s IgnoreRest refl))
 
 -- two events with the start flag and one without it, beside what `more` allows
 pub at_most-more : (i : ℕ) (s : State) (p : List ℕ) → length (events_of i s p) + more_in (next s p) ≤ pick (start_flag p) 2 1 + more_in s

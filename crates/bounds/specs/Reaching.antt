@@ -1,11 +1,10 @@
 -- Packets that give as many events as packets can: every one goes on with the one before it.
-use Rattle.std.specs.Prelude.{◌≡◌, Bool, true, false, List, [], ◌∷◌, ℕ, zero, suc, ◌+◌, ◌-◌, ◌*◌, ◌%◌, ◌≤◌, length, replicate}
+use Rattle.control.specs.declared.ContinuityCounter.{ContinuityCounter}
+use Rattle.std.specs.Prelude.{◌≡◌, Bool, true, false, List, [], ◌∷◌, ℕ, zero, suc, ◌+◌, ◌-◌, ◌*◌, ◌%◌, ◌≤◌, length, replicate, Option, None, Some}
 use Rattle.bits.specs.Answer.{truth, All}
 use Rattle.bits.specs.Pack.{Bytes}
 use Rattle.machine.specs.declared.Mode.TheVariants.{Standard}
 use Rattle.machine.specs.declared.Phase.TheVariants.{Begin}
-use Rattle.machine.specs.declared.Last.{Last}
-use Rattle.machine.specs.declared.Last.TheVariants.{Nothing, At}
 use Rattle.machine.specs.declared.Repeat.TheVariants.{Open}
 use Rattle.machine.specs.declared.Machine.{Machine}
 use Rattle.machine.specs.Events.{as_counter, State, events_of, next, run}
@@ -30,16 +29,16 @@ inputs s p = reaching s (p - s) 0
 
 -- the same after a last counter: the first of them is a break, for its counter is the next but one. From a state in which `more` allows one
 -- entry more they give p + s + 1 events; where there is no last counter the first of them ends a unit
-abbrev pub breaking : Last → ℕ
-breaking Nothing = 0
-breaking (At c) = c.val + 2
+abbrev pub breaking : Option ContinuityCounter → ℕ
+breaking None = 0
+breaking (Some c) = c.val + 2
 
-abbrev pub late : Last → ℕ → ℕ → List (List ℕ)
+abbrev pub late : Option ContinuityCounter → ℕ → ℕ → List (List ℕ)
 late la s p = reaching s (p - s) (breaking la)
 
 -- such a state, which one packet leaves: the standard mode after a packet with counter 5, a payload and no start flag
 abbrev pub waiting : Machine
-waiting = machine Standard Begin (At (as_counter 5)) Open false 1 0
+waiting = machine Standard Begin (Some (as_counter 5)) Open false 1 0
 
 -- each packet has an event
 abbrev pub Speak : ℕ → State → List (List ℕ) → Type 0

@@ -1,13 +1,12 @@
 -- How long a log must be: an entry for each packet and one for each start flag, and in some states of the standard mode one more.
-use Rattle.std.specs.Prelude.{◌≡◌, Bool, true, false, List, [], ◌∷◌, ℕ, ◌+◌, ◌*◌, length, get_or}
+use Rattle.control.specs.declared.ContinuityCounter.{ContinuityCounter}
+use Rattle.std.specs.Prelude.{◌≡◌, Bool, true, false, List, [], ◌∷◌, ℕ, ◌+◌, ◌*◌, length, get_or, Option, None, Some}
 use Rattle.bits.specs.Numbers.{done, log_full}
 use Rattle.bits.specs.Pack.{flat}
 use Rattle.machine.specs.declared.Mode.{Mode}
 use Rattle.machine.specs.declared.Mode.TheVariants.{Crate, Standard}
 use Rattle.machine.specs.declared.Phase.{Phase}
 use Rattle.machine.specs.declared.Phase.TheVariants.{Begin, Started, IgnoreRest}
-use Rattle.machine.specs.declared.Last.{Last}
-use Rattle.machine.specs.declared.Last.TheVariants.{Nothing, At}
 use Rattle.machine.specs.declared.Machine.{Machine}
 use Rattle.machine.specs.Events.{State}
 use Rattle.machine.specs.Step.{step_of, log_of}
@@ -24,11 +23,11 @@ in_unit Begin = 0
 in_unit Started = 1
 in_unit IgnoreRest = 0
 
-abbrev pub more : Mode → Bool → Last → Phase → ℕ
+abbrev pub more : Mode → Bool → Option ContinuityCounter → Phase → ℕ
 more Crate announced la ph = 0
 more Standard true la ph = 0
-more Standard false Nothing ph = in_unit ph
-more Standard false (At c) ph = 1
+more Standard false None ph = in_unit ph
+more Standard false (Some c) ph = 1
 
 abbrev pub more_in : State → ℕ
 more_in s = more s.mode s.announced s.last s.phase
