@@ -7,6 +7,8 @@ use Prim.Native.Nat.{ℕ, zero, suc, ◌+◌, ◌-◌, ◌*◌, ◌%◌, ◌^◌
 use native.Mathlib.Omega.{arith}
 use lib.ListN.{length, take, drop, length-append, length-take, length-drop, take-append-drop}
 use lib.Seq.{append_snoc, get_or_at}
+use Rattle.std.specs.Prelude.{Option, None, Some}
+use Rattle.control.specs.declared.ContinuityCounter.{ContinuityCounter}
 use Rattle.bits.specs.Answer.{All}
 use Rattle.control.proofs.Laws.{compared-next}
 use Rattle.packet.specs.Packet.{pid_field, counter_field, content_at, payload_there}
@@ -15,8 +17,6 @@ use Rattle.event_log.specs.Entry.{event, begin_packet, continue_packet}
 use Rattle.machine.specs.declared.Mode.{Mode}
 use Rattle.machine.specs.declared.Phase.{Phase}
 use Rattle.machine.specs.declared.Phase.TheVariants.{Begin, Started, IgnoreRest}
-use Rattle.machine.specs.declared.Last.{Last}
-use Rattle.machine.specs.declared.Last.TheVariants.{Nothing, At}
 use Rattle.machine.specs.declared.Repeat.{Repeat}
 use Rattle.machine.specs.declared.Repeat.TheVariants.{Open}
 use Rattle.machine.specs.declared.Continuity.TheVariants.{GoesOn}
@@ -37,9 +37,9 @@ use Rattle.capacity.proofs.Carrier.{is-packet}
 -- ---- one packet
 
 -- one with the counter that is due goes on, in both modes
-due-on : (c : ℕ) (mo : Mode) (l : Last) (r : Repeat) (p : List ℕ) → Before c l → payload_there p ≡ true → counter_field p ≡ c → continuity_by mo l r p ≡ GoesOn
-due-on c mo Nothing r p h f e = on-first mo Nothing r p refl
-due-on c mo (At l) r p h f e = on-next mo l r p f (sym (compared-next (counter_field p) l.val (omega (arith, h, e))))
+due-on : (c : ℕ) (mo : Mode) (l : Option ContinuityCounter) (r : Repeat) (p : List ℕ) → Before c l → payload_there p ≡ true → counter_field p ≡ c → continuity_by mo l r p ≡ GoesOn
+due-on c mo None r p h f e = on-first mo None r p refl
+due-on c mo (Some l) r p h f e = on-next mo l r p f (sym (compared-next (counter_field p) l.val (omega (arith, h, e))))
 
 module _ (id c : ℕ) (xs : List ℕ) (fits : c ≤ 15) (low : 1 ≤ length xs) (high : length xs ≤ 184) where
   held-made : (start k i : ℕ) → event_with_payload k i (carrier start id c xs) ≡ end_of k i (length xs)
@@ -53,15 +53,15 @@ module _ (id c : ℕ) (xs : List ℕ) (fits : c ≤ 15) (low : 1 ≤ length xs) 
       due-on c s.mode s.last s.again (carrier start id c xs) h (payload-back start id c xs high low) (counter-back start id c xs fits)
 
   -- a later packet: one continue
-  step-later : (i : ℕ) (mo : Mode) (l : Last) (r : Repeat) (a : Bool) → Before c l
+  step-later : (i : ℕ) (mo : Mode) (l : Option ContinuityCounter) (r : Repeat) (a : Bool) → Before c l
       → events_of i (state mo Started l r a) (carrier 0 id c xs) ≡ end_of continue_packet i (length xs) ∷ []
   unfolding events_of announces announcement continued
   step-later i mo l r a h =
       simp (goes_on 0 (state mo Started l r a) h, start_back 0 id c xs false refl, due-plain mo Started a, payload-back 0 id c xs high low)
       (ap (λ (e : Event). e ∷ []) (held-made 0 continue_packet i))
 
-  next-later : (mo : Mode) (l : Last) (r : Repeat) (a : Bool) → Before c l
-      → next (state mo Started l r a) (carrier 0 id c xs) ≡ state mo Started (At (as_counter c)) Open a
+  next-later : (mo : Mode) (l : Option ContinuityCounter) (r : Repeat) (a : Bool) → Before c l
+      → next (state mo Started l r a) (carrier 0 id c xs) ≡ state mo Started (Some (as_counter c)) Open a
   unfolding next announces
   next-later mo l r a h =
       simp (goes_on 0 (state mo Started l r a) h, start_back 0 id c xs false refl, due-plain mo Started a, or_false a, counter-back 0 id c xs fits, flag-back 0 id c xs)
@@ -77,7 +77,7 @@ module _ (id c : ℕ) (xs : List ℕ) (fits : c ≤ 15) (low : 1 ≤ length xs) 
       (ap (λ (e : Event). d ++ (ended s.phase i ++ (e ∷ []))) (held-made 1 begin_packet i) ∙ sym (append_assoc d (ended s.phase i) (b ∷ [])))
 
   next-first : (s : State) → Before c s.last
-      → next s (carrier 1 id c xs) ≡ state s.mode Started (At (as_counter c)) Open (s.announced || due s.mode GoesOn s.phase s.announced true)
+      → next s (carrier 1 id c xs) ≡ state s.mode Started (Some (as_counter c)) Open (s.announced || due s.mode GoesOn s.phase s.announced true)
   unfolding next announces
   next-first s h = simp (goes_on 1 s h, start_back 1 id c xs true refl, counter-back 1 id c xs fits, flag-back 1 id c xs)
 
@@ -93,7 +93,7 @@ takes-rest k xs h = omega (arith, length-drop 184 xs)
 pub chunk-length : (k : ℕ) (xs : List ℕ) → Takes (suc k) xs → (1 ≤ length (take 184 xs)) × (length (take 184 xs) ≤ 184)
 chunk-length k xs h = omega (arith, length-take 184 xs)
 
-run-later : (k id c i : ℕ) (xs : List ℕ) (mo : Mode) (l : Last) (r : Repeat) (a : Bool) → c ≤ 15 → Before c l → Takes k xs
+run-later : (k id c i : ℕ) (xs : List ℕ) (mo : Mode) (l : Option ContinuityCounter) (r : Repeat) (a : Bool) → c ≤ 15 → Before c l → Takes k xs
     → run i (state mo Started l r a) (carried k 0 id c xs) ≡ continues_of i k (length xs)
 unfolding run carried continues_of
 run-later zero id c i xs mo l r a h f t = refl
@@ -101,7 +101,7 @@ run-later (suc k) id c i xs mo l r a h f t =
     let q = chunk-length k xs t in
     rw (step-later id c (take 184 xs) h q.0 q.1 i mo l r a f, next-later id c (take 184 xs) h q.0 q.1 mo l r a f)
     (ap₂ (λ (m : ℕ) (es : List Event). end_of continue_packet i m ∷ es) (length-take 184 xs)
-    (run-later k id ((c + 1) % 16) (suc i) (drop 184 xs) mo (At (as_counter c)) Open a (omega arith) refl (takes-rest k xs t)
+    (run-later k id ((c + 1) % 16) (suc i) (drop 184 xs) mo (Some (as_counter c)) Open a (omega arith) refl (takes-rest k xs t)
     ∙ ap (continues_of (suc i) k) (length-drop 184 xs)))
 
 -- the bytes of a packet in a list, by its event
@@ -195,7 +195,7 @@ module _ (k id c : ℕ) (xs : List ℕ) (takes : Takes (suc k) xs) where
       rw (
         step-first id c (take 184 xs) fits q.0 q.1 0 s before headed,
         next-first id c (take 184 xs) fits q.0 q.1 s before,
-        run-later k id ((c + 1) % 16) 1 (drop 184 xs) s.mode (At (as_counter c)) Open _ (omega arith) refl (takes-rest k xs takes),
+        run-later k id ((c + 1) % 16) 1 (drop 184 xs) s.mode (Some (as_counter c)) Open _ (omega arith) refl (takes-rest k xs takes),
         append_assoc,
         length-take 184 xs,
         length-drop 184 xs,

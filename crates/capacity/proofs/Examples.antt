@@ -1,5 +1,6 @@
 -- That the premises of the theorems can be met, and that the premise of `least` is needed.
 -- Assumes nothing.
+use Rattle.std.specs.Prelude.{None}
 use mathlib.Core.Path.{◌≡◌, refl}
 use mathlib.Core.Bool.{Bool, true, false}
 use mathlib.Core.List.{List, [], ◌∷◌, ◌++◌}
@@ -25,10 +26,6 @@ use Rattle.gather.specs.Belongs.{event_bytes}
 use Rattle.writer.specs.declared.Route.{Route}
 use Rattle.writer.specs.declared.Times.{Times}
 use Rattle.writer.specs.declared.Times.TheVariants.{Untimed, Pts}
-use Rattle.writer.specs.declared.Escr.{Escr}
-use Rattle.writer.specs.declared.Rate.{Rate}
-use Rattle.writer.specs.declared.Byte.{Byte}
-use Rattle.writer.specs.declared.Crc.{Crc}
 use Rattle.writer.specs.declared.Unit.{Unit}
 use Rattle.writer.specs.Unit.{data_of, stated_length, count_of}
 use Rattle.writer.specs.Writer.{route_tests, unit_tests, size_tests, write_of}
@@ -49,11 +46,11 @@ unit i b t =
       copyright = false;
       original = false;
       times = t;
-      escr = Escr.Absent;
-      rate = Rate.Absent;
-      trick = Byte.Absent;
-      copy = Byte.Absent;
-      crc = Crc.Absent;
+      escr = None;
+      rate = None;
+      trick = None;
+      copy = None;
+      crc = None;
     }
 
 abbrev way : Route

@@ -1,5 +1,6 @@
 -- What is read from a header that the writer makes: every field as given, and the payload after it.
 -- Assumes nothing.
+use Rattle.std.specs.Prelude.{Option, None, Some}
 use mathlib.Core.Path.{◌≡◌, refl, sym, ap, ◌∙◌}
 use mathlib.Core.Bool.{Bool, true, false}
 use mathlib.Core.List.{List, [], ◌∷◌, ◌++◌, append_assoc}
@@ -27,9 +28,8 @@ use Rattle.contents.proofs.Theorems.{escr-at_back, rate-at_back, trick-at_back, 
 use Rattle.pes_header.specs.Payload.{header_payload, payload_bytes}
 use Rattle.writer.specs.declared.Times.{Times}
 use Rattle.writer.specs.declared.Times.TheVariants.{Untimed, Pts, Both}
-use Rattle.writer.specs.declared.Escr.{Escr}
 use Rattle.writer.specs.declared.Unit.{Unit}
-use Rattle.writer.specs.Unit.{Field, absent, holds, rate_field, byte_field, crc_field, times_flags, escr_flag, field_flag, times_bytes, data_of}
+use Rattle.writer.specs.Unit.{times_flags, field_flag, times_bytes, data_of}
 use Rattle.writer.specs.Unit.{stated_length}
 use Rattle.writer.specs.Packets.{head_table, times_image, escr_image, image, fields_image, header_image}
 use Rattle.writer.proofs.Laws.{times-length, escr-length, rate-length, trick-length, copy-length, crc-length, header-length}
@@ -49,13 +49,13 @@ given e = ap (λ (v : ℕ). answer 0 (v ∷ [])) e
 
 -- ---- how long the fields are at most
 
-flag_small : (f : Field) → field_flag f ≤ 1
-flag_small absent = omega arith
-flag_small (holds v) = omega arith
+flag_small : (f : Option ℕ) → field_flag f ≤ 1
+flag_small None = omega arith
+flag_small (Some v) = omega arith
 
-escr-small : (e : Escr) → escr_flag e ≤ 1
-escr-small Escr.Absent = omega arith
-escr-small (Escr.Present b e) = omega arith
+escr-small : (e : Option (ℕ × ℕ)) → field_flag e ≤ 1
+escr-small None = omega arith
+escr-small (Some e) = omega arith
 
 times-small : (t : Times) → (times_bytes t ≤ 10) × (times_flags t ≤ 3)
 times-small Untimed = omega arith
@@ -69,10 +69,10 @@ data_small u =
       arith,
       times-small u.times,
       escr-small u.escr,
-      flag_small (rate_field u.rate),
-      flag_small (byte_field u.trick),
-      flag_small (byte_field u.copy),
-      flag_small (crc_field u.crc),
+      flag_small u.rate,
+      flag_small u.trick,
+      flag_small u.copy,
+      flag_small u.crc,
     )
 
 -- ---- each field
@@ -137,34 +137,34 @@ module _ (c rest : List ℕ) (h : Accepted c) where
   on : (i : ℕ) → bit c i ≡ 1 → flag c i ≡ true
   on i e = eq-eqb (bit c i) 1 e
 
-  escr-read : (f : Escr) → EscrFits f → bit c escr_bit ≡ escr_flag f → drop (escr_at c) c ≡ escr_image f ++ rest → read_escr c ≡ written_escr f
-  unfolding escr_image
-  escr-read Escr.Absent k f e = sym (field_off c escr_bit _ h f)
-  escr-read (Escr.Present b x) k f e = escr-at_back c rest accepts b x k.0 (omega arith) (on escr_bit f) e
+  escr-read : (f : Option (ℕ × ℕ)) → EscrFits f → bit c escr_bit ≡ field_flag f → drop (escr_at c) c ≡ escr_image f ++ rest → read_escr c ≡ written_escr f
+  unfolding escr_image image
+  escr-read None k f e = sym (field_off c escr_bit _ h f)
+  escr-read (Some b) k f e = escr-at_back c rest accepts b.0 b.1 k.0 (omega arith) (on escr_bit f) e
 
-  rate-read : (f : Field) → at_most (2 ^ 22 - 1) f → bit c es_rate_bit ≡ field_flag f → drop (es_rate_at c) c ≡ image es_rate_bytes f ++ rest
+  rate-read : (f : Option ℕ) → at_most (2 ^ 22 - 1) f → bit c es_rate_bit ≡ field_flag f → drop (es_rate_at c) c ≡ image es_rate_bytes f ++ rest
       → read_es_rate c ≡ written_field f
   unfolding image
-  rate-read absent k f e = sym (field_off c es_rate_bit _ h f)
-  rate-read (holds v) k f e = rate-at_back c rest accepts v (omega arith) (on es_rate_bit f) e
+  rate-read None k f e = sym (field_off c es_rate_bit _ h f)
+  rate-read (Some v) k f e = rate-at_back c rest accepts v (omega arith) (on es_rate_bit f) e
 
-  trick-read : (f : Field) → at_most 255 f → bit c trick_bit ≡ field_flag f → drop (trick_at c) c ≡ image trick_bytes f ++ rest
+  trick-read : (f : Option ℕ) → at_most 255 f → bit c trick_bit ≡ field_flag f → drop (trick_at c) c ≡ image trick_bytes f ++ rest
       → read_raw_trick c ≡ written_field f
   unfolding image
-  trick-read absent k f e = sym (field_off c trick_bit _ h f)
-  trick-read (holds v) k f e = trick-at_back c rest accepts v (omega arith) (on trick_bit f) e
+  trick-read None k f e = sym (field_off c trick_bit _ h f)
+  trick-read (Some v) k f e = trick-at_back c rest accepts v (omega arith) (on trick_bit f) e
 
-  copy_read : (f : Field) → at_most 127 f → bit c copy_info_bit ≡ field_flag f → drop (copy_info_at c) c ≡ image copy_info_bytes f ++ rest
+  copy_read : (f : Option ℕ) → at_most 127 f → bit c copy_info_bit ≡ field_flag f → drop (copy_info_at c) c ≡ image copy_info_bytes f ++ rest
       → read_copy_info c ≡ written_field f
   unfolding image
-  copy_read absent k f e = sym (field_off c copy_info_bit _ h f)
-  copy_read (holds v) k f e = copy-info_at_back c rest accepts v (omega arith) (on copy_info_bit f) e
+  copy_read None k f e = sym (field_off c copy_info_bit _ h f)
+  copy_read (Some v) k f e = copy-info_at_back c rest accepts v (omega arith) (on copy_info_bit f) e
 
-  crc-read : (f : Field) → at_most 65535 f → bit c crc_bit ≡ field_flag f → drop (crc_at c) c ≡ image crc_bytes f ++ rest
+  crc-read : (f : Option ℕ) → at_most 65535 f → bit c crc_bit ≡ field_flag f → drop (crc_at c) c ≡ image crc_bytes f ++ rest
       → read_crc c ≡ written_field f
   unfolding image
-  crc-read absent k f e = sym (field_off c crc_bit _ h f)
-  crc-read (holds v) k f e = crc-at_back c rest accepts v (omega arith) (on crc_bit f) e
+  crc-read None k f e = sym (field_off c crc_bit _ h f)
+  crc-read (Some v) k f e = crc-at_back c rest accepts v (omega arith) (on crc_bit f) e
 
 -- ---- the whole header, with the bytes that follow it
 
@@ -225,21 +225,21 @@ module _ (u : Unit) (n : ℕ) (ok : UnitFits u n) (pay : List ℕ) where
   times-flags : field c 8 2 ≡ times_flags u.times
   times-flags = omega (arith, field-drop ys 6 8 2, head-row 9 (omega arith) (omega arith), times-small u.times)
 
-  escr-flag : bit c 10 ≡ escr_flag u.escr
+  escr-flag : bit c 10 ≡ field_flag u.escr
   escr-flag = omega (arith, field-one c 10, field-drop ys 6 10 1, head-row 10 (omega arith) (omega arith), escr-small u.escr)
 
-  rate-flag : bit c 11 ≡ field_flag (rate_field u.rate)
-  rate-flag = omega (arith, field-one c 11, field-drop ys 6 11 1, head-row 11 (omega arith) (omega arith), flag_small (rate_field u.rate))
+  rate-flag : bit c 11 ≡ field_flag u.rate
+  rate-flag = omega (arith, field-one c 11, field-drop ys 6 11 1, head-row 11 (omega arith) (omega arith), flag_small u.rate)
 
-  trick-flag : bit c 12 ≡ field_flag (byte_field u.trick)
+  trick-flag : bit c 12 ≡ field_flag u.trick
   trick-flag =
-      omega (arith, field-one c 12, field-drop ys 6 12 1, head-row 12 (omega arith) (omega arith), flag_small (byte_field u.trick))
+      omega (arith, field-one c 12, field-drop ys 6 12 1, head-row 12 (omega arith) (omega arith), flag_small u.trick)
 
-  copy_flag : bit c 13 ≡ field_flag (byte_field u.copy)
-  copy_flag = omega (arith, field-one c 13, field-drop ys 6 13 1, head-row 13 (omega arith) (omega arith), flag_small (byte_field u.copy))
+  copy_flag : bit c 13 ≡ field_flag u.copy
+  copy_flag = omega (arith, field-one c 13, field-drop ys 6 13 1, head-row 13 (omega arith) (omega arith), flag_small u.copy)
 
-  crc-flag : bit c 14 ≡ field_flag (crc_field u.crc)
-  crc-flag = omega (arith, field-one c 14, field-drop ys 6 14 1, head-row 14 (omega arith) (omega arith), flag_small (crc_field u.crc))
+  crc-flag : bit c 14 ≡ field_flag u.crc
+  crc-flag = omega (arith, field-one c 14, field-drop ys 6 14 1, head-row 14 (omega arith) (omega arith), flag_small u.crc)
 
   extension-flag : bit c 15 ≡ 0
   extension-flag = omega (arith, field-one c 15, field-drop ys 6 15 1, head-row 15 (omega arith) (omega arith))
@@ -250,16 +250,16 @@ module _ (u : Unit) (n : ℕ) (ok : UnitFits u n) (pay : List ℕ) where
 
   -- each field stands after those before it
   abbrev after-copy : List ℕ
-  after-copy = image crc_bytes (crc_field u.crc) ++ pay
+  after-copy = image crc_bytes u.crc ++ pay
 
   abbrev after-trick : List ℕ
-  after-trick = image copy_info_bytes (byte_field u.copy) ++ after-copy
+  after-trick = image copy_info_bytes u.copy ++ after-copy
 
   abbrev after-rate : List ℕ
-  after-rate = image trick_bytes (byte_field u.trick) ++ after-trick
+  after-rate = image trick_bytes u.trick ++ after-trick
 
   abbrev after-escr : List ℕ
-  after-escr = image es_rate_bytes (rate_field u.rate) ++ after-rate
+  after-escr = image es_rate_bytes u.rate ++ after-rate
 
   abbrev after-times : List ℕ
   after-times = escr_image u.escr ++ after-escr
@@ -283,25 +283,25 @@ module _ (u : Unit) (n : ℕ) (ok : UnitFits u n) (pay : List ℕ) where
   trick-at : drop (trick_at c) c ≡ after-rate
   unfolding trick_at
   trick-at =
-      let f = rate_field u.rate in
+      let f = u.rate in
       skip (image es_rate_bytes f) after-rate c (es_rate_at c) (3 * bit c 11) rate-at (omega (arith, rate-length f, rate-flag))
 
   copy_at : drop (copy_info_at c) c ≡ after-trick
   unfolding copy_info_at
   copy_at =
-      let f = byte_field u.trick in
+      let f = u.trick in
       skip (image trick_bytes f) after-trick c (trick_at c) (bit c 12) trick-at (omega (arith, trick-length f, trick-flag))
 
   crc-at : drop (crc_at c) c ≡ after-copy
   unfolding crc_at
   crc-at =
-      let f = byte_field u.copy in
+      let f = u.copy in
       skip (image copy_info_bytes f) after-copy c (copy_info_at c) (bit c 13) copy_at (omega (arith, copy-length f, copy_flag))
 
   end_at : drop (fields_end c) c ≡ pay
   unfolding fields_end
   end_at =
-      let f = crc_field u.crc in
+      let f = u.crc in
       skip (image crc_bytes f) pay c (crc_at c) (2 * bit c 14) crc-at (omega (arith, crc-length f, crc-flag))
 
   end_is : fields_end c ≡ 3 + data_of u
@@ -340,10 +340,10 @@ module _ (u : Unit) (n : ℕ) (ok : UnitFits u n) (pay : List ℕ) where
         original = bit-given 7 u.original original-back;
         times = times-read c after-times a u.times ok.times-fit times-flags times-at;
         escr = escr-read c after-escr a u.escr ok.escr-fits escr-flag escr-at;
-        rate = rate-read c after-rate a (rate_field u.rate) ok.rate-fits rate-flag rate-at;
-        trick = trick-read c after-trick a (byte_field u.trick) ok.trick-fits trick-flag trick-at;
-        copy = copy_read c after-copy a (byte_field u.copy) ok.copy-fits copy_flag copy_at;
-        crc = crc-read c pay a (crc_field u.crc) ok.crc-fits crc-flag crc-at;
+        rate = rate-read c after-rate a u.rate ok.rate-fits rate-flag rate-at;
+        trick = trick-read c after-trick a u.trick ok.trick-fits trick-flag trick-at;
+        copy = copy_read c after-copy a u.copy ok.copy-fits copy_flag copy_at;
+        crc = crc-read c pay a u.crc ok.crc-fits crc-flag crc-at;
       }
 
   -- and the payload after the header

@@ -1,5 +1,6 @@
 -- No run with fewer packets gives a unit: a packet carries at most 184 bytes of it, and the first carries its header.
 -- Assumes nothing.
+use Rattle.std.specs.Prelude.{Option, None, Some}
 use mathlib.Core.Path.{◌≡◌, refl, sym, ap, ◌∙◌}
 use mathlib.Core.Bool.{Bool, true, false, not}
 use mathlib.Core.List.{List, [], ◌∷◌, ◌++◌}
@@ -14,7 +15,6 @@ use Rattle.packet.specs.Packet.{start_flag, adaptation_flag, adaptation_length, 
 use Rattle.pes.specs.Stream.{parsed_id}
 use Rattle.pes.specs.Head.{id_of}
 use Rattle.pes.proofs.Laws.{headed-done}
-use Rattle.contents.specs.declared.ContentsRead.{ContentsRead}
 use Rattle.contents.specs.Contents.{times_size, escr_at, es_rate_at, trick_at, copy_info_at, crc_at, fields_end, payload_at, flagged, read_pts_dts}
 use Rattle.contents.proofs.Laws.{Accepted, accepted}
 use Rattle.event_log.specs.declared.Event.{Event}
@@ -29,9 +29,8 @@ use Rattle.pes_header.specs.Payload.{header_payload, payload_bytes}
 use Rattle.gather.specs.Belongs.{event_bytes}
 use Rattle.writer.specs.declared.Times.{Times}
 use Rattle.writer.specs.declared.Times.TheVariants.{Untimed, Pts, Both}
-use Rattle.writer.specs.declared.Escr.{Escr}
 use Rattle.writer.specs.declared.Unit.{Unit}
-use Rattle.writer.specs.Unit.{Field, absent, holds, rate_field, byte_field, crc_field, escr_flag, field_flag, times_bytes, data_of, count_of}
+use Rattle.writer.specs.Unit.{field_flag, times_bytes, data_of, count_of}
 use Rattle.units.specs.Units.{bytes_at, bytes_at_all}
 use Rattle.capacity.specs.Reads.{begins, continues, up_to_begin, Segment, segment, segments, written_times, written_escr, written_field}
 use Rattle.capacity.specs.Reads.{contents, HasFields, Gives}
@@ -189,13 +188,13 @@ module _ (c : List ℕ) (h : Accepted c) where
       go true z = refl
       go false z = absurd (omega arith)
 
-  field-takes : (i : ℕ) (a : Answer) (f : Field) → flagged i c a ≡ written_field f → field_flag f ≤ bit c i
-  field-takes i a absent e = omega arith
-  field-takes i a (holds v) e = omega (arith, flag-on i a (ap number_of_lem e))
+  field-takes : (i : ℕ) (a : Answer) (f : Option ℕ) → flagged i c a ≡ written_field f → field_flag f ≤ bit c i
+  field-takes i a None e = omega arith
+  field-takes i a (Some v) e = omega (arith, flag-on i a (ap number_of_lem e))
 
-  escr-takes : (a : Answer) (f : Escr) → flagged 10 c a ≡ written_escr f → escr_flag f ≤ bit c 10
-  escr-takes a Escr.Absent e = omega arith
-  escr-takes a (Escr.Present b x) e = omega (arith, flag-on 10 a (ap number_of_lem e))
+  escr-takes : (a : Answer) (f : Option (ℕ × ℕ)) → flagged 10 c a ≡ written_escr f → field_flag f ≤ bit c 10
+  escr-takes a None e = omega arith
+  escr-takes a (Some b) e = omega (arith, flag-on 10 a (ap number_of_lem e))
 
   -- PTS_DTS_flags by the kind that is read
   times-by : (p d : Bool) (v w : List ℕ) (k : ℕ)
@@ -230,7 +229,7 @@ module _ (u : Unit) (xs : List ℕ) (h : HasFields u xs) where
   c = contents xs
 
   taken : Accepted c
-  taken = accepted c ContentsRead.Done refl (sym h.accepted)
+  taken = accepted c (sym h.accepted)
 
   fields-room : 3 + data_of u ≤ fields_end c
   unfolding data_of fields_end crc_at copy_info_at trick_at es_rate_at escr_at
@@ -239,10 +238,10 @@ module _ (u : Unit) (xs : List ℕ) (h : HasFields u xs) where
         arith,
         times-takes c taken u.times h.times,
         escr-takes c taken _ u.escr h.escr,
-        field-takes c taken 11 _ (rate_field u.rate) h.rate,
-        field-takes c taken 12 _ (byte_field u.trick) h.trick,
-        field-takes c taken 13 _ (byte_field u.copy) h.copy,
-        field-takes c taken 14 _ (crc_field u.crc) h.crc,
+        field-takes c taken 11 _ u.rate h.rate,
+        field-takes c taken 12 _ u.trick h.trick,
+        field-takes c taken 13 _ u.copy h.copy,
+        field-takes c taken 14 _ u.crc h.crc,
       )
 
   -- the first packet's part has the header's nine bytes, its data bytes and what it carries of the payload

@@ -1,5 +1,6 @@
 -- What the writer's tests say of a route and a unit that pass them.
 -- Assumes nothing.
+use Rattle.std.specs.Prelude.{Option, None, Some}
 use mathlib.Core.Path.{◌≡◌}
 use mathlib.Core.Bool.{Bool, true}
 use mathlib.Core.List.{List, [], ◌∷◌}
@@ -13,9 +14,8 @@ use Rattle.pes.specs.Stream.{parsed_id}
 use Rattle.writer.specs.declared.Route.{Route}
 use Rattle.writer.specs.declared.Times.{Times}
 use Rattle.writer.specs.declared.Times.TheVariants.{Untimed, Pts, Both}
-use Rattle.writer.specs.declared.Escr.{Escr}
 use Rattle.writer.specs.declared.Unit.{Unit}
-use Rattle.writer.specs.Unit.{Field, absent, holds, rate_field, byte_field, crc_field, stated_length}
+use Rattle.writer.specs.Unit.{stated_length}
 use Rattle.writer.specs.Writer.{all_of, within, times_fit, escr_fits, fits, route_tests, unit_tests, size_tests}
 use Rattle.capacity.specs.Demand.{at_most, Permitted}
 
@@ -26,9 +26,9 @@ TimesFit Untimed = 0 ≤ 0
 TimesFit (Pts p) = p < 2 ^ 33
 TimesFit (Both p d) = (p < 2 ^ 33) × (d < 2 ^ 33)
 
-abbrev pub EscrFits : Escr → Type 0
-EscrFits Escr.Absent = 0 ≤ 0
-EscrFits (Escr.Present b e) = (b < 2 ^ 33) × (e ≤ 299)
+abbrev pub EscrFits : Option (ℕ × ℕ) → Type 0
+EscrFits None = 0 ≤ 0
+EscrFits (Some e) = (e.0 < 2 ^ 33) × (e.1 ≤ 299)
 
 pub record RouteFits (r : Route) : Type 0 where
   pub pid_high : r.pid ≤ 8190
@@ -40,10 +40,10 @@ pub record UnitFits (u : Unit) (n : ℕ) : Type 0 where
   pub id-parsed : parsed_id u.id ≡ true
   pub times-fit : TimesFit u.times
   pub escr-fits : EscrFits u.escr
-  pub rate-fits : at_most (2 ^ 22 - 1) (rate_field u.rate)
-  pub trick-fits : at_most 255 (byte_field u.trick)
-  pub copy-fits : at_most 127 (byte_field u.copy)
-  pub crc-fits : at_most 65535 (crc_field u.crc)
+  pub rate-fits : at_most (2 ^ 22 - 1) u.rate
+  pub trick-fits : at_most 255 u.trick
+  pub copy-fits : at_most 127 u.copy
+  pub crc-fits : at_most 65535 u.crc
   pub length-fits : stated_length u n ≤ 65535
 
 -- ---- the tests
@@ -63,13 +63,13 @@ times-true Untimed h = omega arith
 times-true (Pts p) h = ltb-true p (2 ^ 33) h
 times-true (Both p d) h = let g = both (ltb p (2 ^ 33)) (ltb d (2 ^ 33)) h in (ltb-true p (2 ^ 33) g.0, ltb-true d (2 ^ 33) g.1)
 
-escr-true : (e : Escr) → escr_fits e ≡ true → EscrFits e
-escr-true Escr.Absent h = omega arith
-escr-true (Escr.Present b e) h = let g = both (ltb b (2 ^ 33)) (leb e 299) h in (ltb-true b (2 ^ 33) g.0, leb-true e 299 g.1)
+escr-true : (e : Option (ℕ × ℕ)) → escr_fits e ≡ true → EscrFits e
+escr-true None h = omega arith
+escr-true (Some e) h = let g = both (ltb e.0 (2 ^ 33)) (leb e.1 299) h in (ltb-true e.0 (2 ^ 33) g.0, leb-true e.1 299 g.1)
 
-fits-true : (a z : ℕ) (f : Field) → fits a z f ≡ true → at_most z f
-fits-true a z absent h = omega arith
-fits-true a z (holds v) h = (within-true a z v h).1
+fits-true : (a z : ℕ) (f : Option ℕ) → fits a z f ≡ true → at_most z f
+fits-true a z None h = omega arith
+fits-true a z (Some v) h = (within-true a z v h).1
 
 module _ (r : Route) (u : Unit) (n : ℕ) (ok : Permitted r u n) where
   pub route-fits : RouteFits r
@@ -94,9 +94,9 @@ module _ (r : Route) (u : Unit) (n : ℕ) (ok : Permitted r u n) where
         id-parsed = g₁.0;
         times-fit = times-true u.times g₃.0;
         escr-fits = escr-true u.escr g₄.0;
-        rate-fits = fits-true 1 (2 ^ 22 - 1) (rate_field u.rate) g₅.0;
+        rate-fits = fits-true 1 (2 ^ 22 - 1) u.rate g₅.0;
         trick-fits = ok.typed.trick-byte;
-        copy-fits = fits-true 0 127 (byte_field u.copy) g₆.0;
+        copy-fits = fits-true 0 127 u.copy g₆.0;
         crc-fits = ok.typed.crc-word;
         length-fits = leb-true (stated_length u n) 65535 q.1.0;
       }

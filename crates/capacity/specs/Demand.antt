@@ -1,5 +1,6 @@
 -- Demand 3: what the writer accepts reads back whole, in the fewest packets.
-use Rattle.std.specs.Prelude.{◌≡◌, true, List, [], ◌∷◌, ◌++◌, map, ℕ, zero, suc, ◌+◌, ◌-◌, ◌*◌, ◌%◌, ◌≤◌, min, length, get_or, take}
+use Rattle.control.specs.declared.ContinuityCounter.{ContinuityCounter}
+use Rattle.std.specs.Prelude.{Option, None, Some, ◌≡◌, true, List, [], ◌∷◌, ◌++◌, map, ℕ, zero, suc, ◌+◌, ◌-◌, ◌*◌, ◌%◌, ◌≤◌, min, length, get_or, take}
 use Rattle.bits.specs.Answer.{All}
 use Rattle.bits.specs.Numbers.{done}
 use Rattle.packet.specs.Packet.{pid_field, counter_field}
@@ -7,31 +8,29 @@ use Rattle.pes.specs.Head.{packet_length}
 use Rattle.event_log.specs.declared.Event.{Event}
 use Rattle.event_log.specs.Entry.{event, begin_packet, continue_packet}
 use Rattle.machine.specs.declared.Continuity.TheVariants.{GoesOn}
-use Rattle.machine.specs.declared.Last.{Last}
-use Rattle.machine.specs.declared.Last.TheVariants.{Nothing, At}
 use Rattle.machine.specs.declared.Machine.{Machine}
 use Rattle.machine.specs.Events.{State, due, announcement, ended, run}
 use Rattle.machine.specs.Step.{state_of}
 use Rattle.machine.specs.Run.{packets_in, shifted}
 use Rattle.writer.specs.declared.Route.{Route}
 use Rattle.writer.specs.declared.Unit.{Unit}
-use Rattle.writer.specs.Unit.{byte_field, crc_field, Field, absent, holds, data_of, stated_length, count_of}
+use Rattle.writer.specs.Unit.{data_of, stated_length, count_of}
 use Rattle.writer.specs.Writer.{all_of, route_tests, unit_tests, size_tests, write_of, output_of}
 use Rattle.units.specs.Units.{bytes_at}
 use Rattle.capacity.specs.Reads.{Delivers}
 
 -- ---- what is permitted
 
-abbrev pub at_most : ℕ → Field → Type 0
-at_most z absent = 0 ≤ 0
-at_most z (holds v) = v ≤ z
+abbrev pub at_most : ℕ → Option ℕ → Type 0
+at_most z None = 0 ≤ 0
+at_most z (Some v) = v ≤ z
 
 -- the fields that the writer does not test are numbers of their types: every value of the type Unit is such, as id and trick mode byte
 -- are u8 and the CRC field is u16
 pub record Typed (u : Unit) : Type 0 where
   pub id-byte : u.id ≤ 255
-  pub trick-byte : at_most 255 (byte_field u.trick)
-  pub crc-word : at_most 65535 (crc_field u.crc)
+  pub trick-byte : at_most 255 u.trick
+  pub crc-word : at_most 65535 u.crc
 
 -- neither 17 nor 18: every test of the field list and of the size list holds
 pub record Permitted (r : Route) (u : Unit) (n : ℕ) : Type 0 where
@@ -57,9 +56,9 @@ abbrev pub output_packets : Route → Unit → List ℕ → List ℕ → List (L
 output_packets r u payload out = packets_in (output_bytes r u payload out)
 
 -- no last counter, or the one before the first: any mode, any phase, whatever may be repeated, announced or not
-abbrev pub Before : ℕ → Last → Type 0
-Before c Nothing = 0 ≤ 0
-Before c (At l) = (l.val + 1) % 16 ≡ c
+abbrev pub Before : ℕ → Option ContinuityCounter → Type 0
+Before c None = 0 ≤ 0
+Before c (Some l) = (l.val + 1) % 16 ≡ c
 
 abbrev pub Ready : Route → State → Type 0
 Ready r s = Before r.counter s.last

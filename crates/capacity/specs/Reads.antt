@@ -1,5 +1,5 @@
 -- What a list of packets gives, read from the machine's events by their place and length in the packets.
-use Rattle.std.specs.Prelude.{◌≡◌, Bool, List, [], ◌∷◌, ◌++◌, ℕ, drop, eqb}
+use Rattle.std.specs.Prelude.{Option, None, Some, ◌≡◌, Bool, List, [], ◌∷◌, ◌++◌, ℕ, drop, eqb}
 use Rattle.bits.specs.Answer.{Answer, answer, pick, truth, All}
 use Rattle.bits.specs.Numbers.{done, field_not_present}
 use Rattle.pes.specs.Head.{read_head, id_of}
@@ -14,9 +14,7 @@ use Rattle.machine.specs.Run.{IsPacket}
 use Rattle.units.specs.Units.{bytes_at, bytes_at_all}
 use Rattle.writer.specs.declared.Times.{Times}
 use Rattle.writer.specs.declared.Times.TheVariants.{Untimed, Pts, Both}
-use Rattle.writer.specs.declared.Escr.{Escr}
 use Rattle.writer.specs.declared.Unit.{Unit}
-use Rattle.writer.specs.Unit.{Field, absent, holds, rate_field, byte_field, crc_field}
 
 -- ---- segments
 
@@ -50,13 +48,13 @@ written_times Untimed = answer field_not_present []
 written_times (Pts p) = answer done (1 ∷ done ∷ p ∷ [])
 written_times (Both p d) = answer done (2 ∷ done ∷ p ∷ done ∷ d ∷ [])
 
-abbrev pub written_escr : Escr → Answer
-written_escr Escr.Absent = answer field_not_present []
-written_escr (Escr.Present b e) = answer done (b ∷ e ∷ [])
+abbrev pub written_escr : Option (ℕ × ℕ) → Answer
+written_escr None = answer field_not_present []
+written_escr (Some e) = answer done (e.0 ∷ e.1 ∷ [])
 
-abbrev pub written_field : Field → Answer
-written_field absent = answer field_not_present []
-written_field (holds v) = answer done (v ∷ [])
+abbrev pub written_field : Option ℕ → Answer
+written_field None = answer field_not_present []
+written_field (Some v) = answer done (v ∷ [])
 
 abbrev pub written_bit : Bool → Answer
 written_bit b = answer done (truth b ∷ [])
@@ -76,10 +74,10 @@ pub record HasFields (u : Unit) (xs : List ℕ) : Type 0 where
   pub original : read_fixed original_bit 1 (contents xs) ≡ written_bit u.original
   pub times : read_pts_dts (contents xs) ≡ written_times u.times
   pub escr : read_escr (contents xs) ≡ written_escr u.escr
-  pub rate : read_es_rate (contents xs) ≡ written_field (rate_field u.rate)
-  pub trick : read_raw_trick (contents xs) ≡ written_field (byte_field u.trick)
-  pub copy : read_copy_info (contents xs) ≡ written_field (byte_field u.copy)
-  pub crc : read_crc (contents xs) ≡ written_field (crc_field u.crc)
+  pub rate : read_es_rate (contents xs) ≡ written_field u.rate
+  pub trick : read_raw_trick (contents xs) ≡ written_field u.trick
+  pub copy : read_copy_info (contents xs) ≡ written_field u.copy
+  pub crc : read_crc (contents xs) ≡ written_field u.crc
 
 -- ---- what is given
 
