@@ -1,22 +1,12 @@
 // The gathering store: a line for each event, with the number and the fields of the state after it and the bytes so far.
 use crate::machines::{ENTRIES, LOG};
 use crate::{machines, packets, show};
-use event_log::{EntryRead, Event};
-use gather::{Gathered, Gathering, Lies, Verdict};
+use event_log::Event;
+use gather::{Gathered, Gathering, Lies};
 use machine::Machine;
 use std::io;
 
 // ---- lines
-
-fn number(rt: &impl Print, v: Verdict) -> io::Result<()> {
-    match v {
-        Verdict::Done => show::number(rt, 0),
-        Verdict::WrongLength => show::number(rt, 1),
-        Verdict::NoSync => show::number(rt, 2),
-        Verdict::OutOfRange => show::number(rt, 14),
-        Verdict::StoreFull => show::number(rt, 20),
-    }
-}
 
 fn lying(rt: &impl Print, lies: Lies) -> io::Result<()> {
     match lies {
@@ -30,7 +20,7 @@ fn answer(rt: &impl Print, s: Gathered) -> io::Result<()> {
     let g = s.gathering;
     let opened = g.opened;
     let lies = g.lies;
-    number(rt, v)?;
+    show::verdict(rt, v)?;
     show::two(rt, opened as u64, g.count as u64)?;
     lying(rt, lies)?;
     show::comma(rt)
@@ -70,8 +60,8 @@ fn entry(
     store: &mut [u8],
 ) -> io::Result<Gathering> {
     match event_log::entry_at(log, at) {
-        EntryRead::Done(e) => take(rt, g, packets::packet(stream, e.index), e, store),
-        EntryRead::OutOfRange => Ok(g),
+        Ok(e) => take(rt, g, packets::packet(stream, e.index), e, store),
+        Err(_) => Ok(g),
     }
 }
 

@@ -1,20 +1,17 @@
 // Headers: a line for each, with a group for every reader, the payload by the object `PesHeader`, and, where the id carries parsed contents,
 // for two fields of these.
 use crate::{header_object, show};
-use bits::wide;
-use contents::{EscrRead, PtsDts, Refusal, StampRead};
-use pes::{ContentsRead, HeadRead, LengthRead, StreamId, StreamIdRead};
-use pes_header::PayloadRead;
+use bits::{Extent, Refusal, wide};
+use contents::PtsDts;
+use control::ClockRef;
+use pes::{PesContents, PesLength, StreamId};
 use std::io;
+use timestamp::Timestamp;
 
 // ---- the head
 
-fn head(rt: &impl Print, r: HeadRead) -> io::Result<()> {
-    match r {
-        HeadRead::Done => show::number(rt, 0),
-        HeadRead::ShortHeader => show::number(rt, 3),
-        HeadRead::BadStartCode => show::number(rt, 4),
-    }?;
+fn head(rt: &impl Print, r: Result<(), Refusal>) -> io::Result<()> {
+    show::verdict(rt, r)?;
     show::comma(rt)
 }
 
@@ -28,55 +25,52 @@ fn kind(rt: &impl Print, id: StreamId) -> io::Result<()> {
     }
 }
 
-fn stream_id(rt: &impl Print, r: StreamIdRead) -> io::Result<()> {
+fn stream_id(rt: &impl Print, r: Result<StreamId, Refusal>) -> io::Result<()> {
     match r {
-        StreamIdRead::Done(id) => {
+        Ok(id) => {
             show::number(rt, 0)?;
             kind(rt, id)
         }
-        StreamIdRead::ShortHeader => show::number(rt, 3),
-        StreamIdRead::BadStartCode => show::number(rt, 4),
+        Err(why) => show::refusal(rt, why),
     }?;
     show::comma(rt)
 }
 
-fn length(rt: &impl Print, r: LengthRead) -> io::Result<()> {
+fn length(rt: &impl Print, r: Result<PesLength, Refusal>) -> io::Result<()> {
     match r {
-        LengthRead::Unbounded => show::two(rt, 0, 0),
-        LengthRead::Bounded(n) => show::two(rt, 0, n as u64),
-        LengthRead::ShortHeader => show::number(rt, 3),
-        LengthRead::BadStartCode => show::number(rt, 4),
+        Ok(PesLength::Unbounded) => show::two(rt, 0, 0),
+        Ok(PesLength::Bounded(n)) => show::two(rt, 0, n as u64),
+        Err(why) => show::refusal(rt, why),
     }?;
     show::comma(rt)
 }
 
-fn lying(rt: &impl Print, kind: u64, place: usize, length: usize) -> io::Result<()> {
-    show::two(rt, 0, kind)?;
-    show::two(rt, place as u64, length as u64)
+fn extent(rt: &impl Print, e: Extent) -> io::Result<()> {
+    show::two(rt, e.place as u64, e.length as u64)
 }
 
-fn contents(rt: &impl Print, r: ContentsRead) -> io::Result<()> {
+fn contents(rt: &impl Print, r: Result<PesContents, Refusal>) -> io::Result<()> {
     match r {
-        ContentsRead::Payload { place, length } => lying(rt, 0, place, length),
-        ContentsRead::Parsed { place, length } => lying(rt, 1, place, length),
-        ContentsRead::ShortHeader => show::number(rt, 3),
-        ContentsRead::BadStartCode => show::number(rt, 4),
-    }?;
-    show::comma(rt)
-}
-
-fn payload_at(rt: &impl Print, r: PayloadRead) -> io::Result<()> {
-    match r {
-        PayloadRead::Done { place, length } => {
-            show::number(rt, 0)?;
-            show::two(rt, place as u64, length as u64)
+        Ok(PesContents::Payload(e)) => {
+            show::two(rt, 0, 0)?;
+            extent(rt, e)
         }
-        PayloadRead::ShortHeader => show::number(rt, 3),
-        PayloadRead::BadStartCode => show::number(rt, 4),
-        PayloadRead::ShortContents => show::number(rt, 5),
-        PayloadRead::BadCheckBits => show::number(rt, 6),
-        PayloadRead::HeaderPastBuffer => show::number(rt, 7),
-        PayloadRead::FieldsPastHeader => show::number(rt, 8),
+        Ok(PesContents::Parsed(e)) => {
+            show::two(rt, 0, 1)?;
+            extent(rt, e)
+        }
+        Err(why) => show::refusal(rt, why),
+    }?;
+    show::comma(rt)
+}
+
+fn payload_at(rt: &impl Print, r: Result<Extent, Refusal>) -> io::Result<()> {
+    match r {
+        Ok(e) => {
+            show::number(rt, 0)?;
+            extent(rt, e)
+        }
+        Err(why) => show::refusal(rt, why),
     }?;
     show::comma(rt)
 }
@@ -88,48 +82,36 @@ fn part(rt: &impl Print, bytes: &[u8]) -> io::Result<()> {
 
 // ---- fields of the parsed contents
 
-fn refusal(rt: &impl Print, r: Refusal) -> io::Result<()> {
+fn stamp(rt: &impl Print, r: Result<Timestamp, Refusal>) -> io::Result<()> {
     match r {
-        Refusal::ShortContents => show::number(rt, 5),
-        Refusal::BadCheckBits => show::number(rt, 6),
-        Refusal::HeaderPastBuffer => show::number(rt, 7),
-        Refusal::FieldsPastHeader => show::number(rt, 8),
+        Ok(t) => show::two(rt, 0, t.value()),
+        Err(why) => show::refusal(rt, why),
     }
 }
 
-fn stamp(rt: &impl Print, r: StampRead) -> io::Result<()> {
+fn pts_dts(rt: &impl Print, r: Result<PtsDts, Refusal>) -> io::Result<()> {
     match r {
-        StampRead::Done(t) => show::two(rt, 0, t.value()),
-        StampRead::MarkerBitNotSet { bit_number } => show::two(rt, 12, wide(bit_number)),
-    }
-}
-
-fn pts_dts(rt: &impl Print, r: PtsDts) -> io::Result<()> {
-    match r {
-        PtsDts::PtsOnly(pts) => {
+        Ok(PtsDts::PtsOnly(pts)) => {
             show::number(rt, 0)?;
             stamp(rt, pts)
         }
-        PtsDts::Both { pts, dts } => {
+        Ok(PtsDts::Both { pts, dts }) => {
             show::number(rt, 0)?;
             stamp(rt, pts)?;
             stamp(rt, dts)
         }
-        PtsDts::FieldNotPresent => show::number(rt, 9),
-        PtsDts::PtsDtsFlagsInvalid => show::number(rt, 10),
-        PtsDts::Refused(why) => refusal(rt, why),
+        Err(why) => show::refusal(rt, why),
     }?;
     show::comma(rt)
 }
 
-fn escr(rt: &impl Print, r: EscrRead) -> io::Result<()> {
+fn escr(rt: &impl Print, r: Result<ClockRef, Refusal>) -> io::Result<()> {
     match r {
-        EscrRead::Done(c) => {
+        Ok(c) => {
             show::number(rt, 0)?;
             show::two(rt, c.base(), c.extension() as u64)
         }
-        EscrRead::FieldNotPresent => show::number(rt, 9),
-        EscrRead::Refused(why) => refusal(rt, why),
+        Err(why) => show::refusal(rt, why),
     }
 }
 
@@ -156,16 +138,9 @@ fn parsed(rt: &impl Print, contents: &[u8]) -> io::Result<()> {
 // The fields can be asked of parsed contents alone.
 fn fields(rt: &impl Print, bytes: &[u8]) -> io::Result<()> {
     match pes::contents(bytes) {
-        ContentsRead::Payload {
-            place: _,
-            length: _,
-        } => show::words(rt, b" bare"),
-        ContentsRead::Parsed {
-            place: _,
-            length: _,
-        } => parsed(rt, pes::contents_part(bytes)),
-        ContentsRead::ShortHeader => show::number(rt, 3),
-        ContentsRead::BadStartCode => show::number(rt, 4),
+        Ok(PesContents::Payload(_)) => show::words(rt, b" bare"),
+        Ok(PesContents::Parsed(e)) => parsed(rt, e.of(bytes)),
+        Err(why) => show::refusal(rt, why),
     }?;
     show::end(rt)
 }

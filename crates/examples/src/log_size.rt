@@ -4,9 +4,9 @@ ghost use Rattle.std.specs.Prelude.{◌≡◌, ◌+◌, ◌*◌, ◌<◌};
 ghost use Rattle.bits.specs.Answer.{truth};
 ghost use Rattle.bounds.specs.Reaching.{eventful};
 
-use crate::{machines, show};
+use crate::show;
 use bits::{copy_at, part};
-use machine::{Machine, Stepped, Verdict};
+use machine::{Machine, Stepped};
 use std::io;
 
 // The most packets, their bytes, and the longest log.
@@ -96,9 +96,9 @@ fn run_all(
     let r = machine::run(m, bytes, log);
     let v = r.verdict;
     let ended = r.ended;
-    machines::number(rt, v)?;
+    show::verdict(rt, v)?;
     show::number(rt, r.packets as u64)?;
-    machines::number(rt, ended)?;
+    show::verdict(rt, ended)?;
     show::comma(rt)?;
     after(rt, r.machine)
 }
@@ -117,7 +117,7 @@ fn step_one(s: Stepped, row: Row, i: usize, log: &mut [u8]) -> Stepped
 // One a call, and the answer to the last.
 fn stepped(m: Machine, row: Row, log: &mut [u8]) -> Stepped {
     let mut s = Stepped {
-        verdict: Verdict::Done,
+        verdict: Ok(()),
         machine: m,
     };
     for i in 0..MOST {
@@ -130,7 +130,7 @@ fn step_all(rt: &impl Print, from: &[u8], m: Machine, row: Row, log: &mut [u8]) 
     line(rt, b"log_size step ", from, row, log)?;
     let s = stepped(m, row, log);
     let v = s.verdict;
-    machines::number(rt, v)?;
+    show::verdict(rt, v)?;
     show::comma(rt)?;
     after(rt, s.machine)
 }

@@ -1,8 +1,9 @@
 // The machine, step by step over a lent state and by one call: a line for each call, with its answer and the fields of the state after it, then each entry of the log.
 use crate::{own_state, packets, show};
 use bits::{copy_at, part, wide};
-use event_log::{EntryRead, Event};
-use machine::{Last, Machine, Mode, Phase, Repeat, Verdict};
+use control::ContinuityCounter;
+use event_log::Event;
+use machine::{Machine, Mode, Phase, Repeat};
 use std::io;
 
 // Room for one entry more than the example has.
@@ -11,17 +12,6 @@ pub const ENTRIES: usize = 6;
 pub const LOG: usize = 48;
 
 // ---- lines
-
-pub fn number(rt: &impl Print, v: Verdict) -> io::Result<()> {
-    match v {
-        Verdict::Done => show::number(rt, 0),
-        Verdict::WrongLength => show::number(rt, 1),
-        Verdict::NoSync => show::number(rt, 2),
-        Verdict::OutOfRange => show::number(rt, 14),
-        Verdict::IndexFull => show::number(rt, 16),
-        Verdict::LogFull => show::number(rt, 15),
-    }
-}
 
 fn mode(rt: &impl Print, m: Mode) -> io::Result<()> {
     match m {
@@ -38,10 +28,10 @@ fn phase(rt: &impl Print, p: Phase) -> io::Result<()> {
     }
 }
 
-fn last(rt: &impl Print, l: Last) -> io::Result<()> {
+fn last(rt: &impl Print, l: Option<ContinuityCounter>) -> io::Result<()> {
     match l {
-        Last::Nothing => show::number(rt, 255),
-        Last::At(counter) => show::number(rt, wide(counter.count())),
+        None => show::number(rt, 255),
+        Some(counter) => show::number(rt, wide(counter.count())),
     }
 }
 
@@ -60,7 +50,7 @@ pub fn event(rt: &impl Print, e: Event) -> io::Result<()> {
 
 // The entry at a place of the log, if there is one: bytes of 0 are none.
 fn entry(rt: &impl Print, log: &[u8; LOG], at: usize) -> io::Result<()> {
-    if let EntryRead::Done(e) = event_log::entry_at(log, at) {
+    if let Ok(e) = event_log::entry_at(log, at) {
         show::comma(rt)?;
         event(rt, e)?;
     }
@@ -102,7 +92,7 @@ pub fn step(
     let v = s.verdict;
     let after = s.machine;
     show::words(rt, call)?;
-    number(rt, v)?;
+    show::verdict(rt, v)?;
     state(rt, after, log)?;
     Ok(after)
 }
@@ -124,9 +114,9 @@ pub fn all(rt: &impl Print, call: &[u8], m: Machine, bytes: &[u8]) -> io::Result
     let v = r.verdict;
     let ended = r.ended;
     show::words(rt, call)?;
-    number(rt, v)?;
+    show::verdict(rt, v)?;
     show::number(rt, r.packets as u64)?;
-    number(rt, ended)?;
+    show::verdict(rt, ended)?;
     state(rt, r.machine, &log)
 }
 
@@ -142,7 +132,7 @@ fn between_entries() -> Machine {
     Machine {
         mode: Mode::Standard,
         phase: Phase::Started,
-        last: Last::Nothing,
+        last: None,
         again: Repeat::Spent,
         announced: true,
         taken: 7,

@@ -3,7 +3,7 @@
 use crate::machines;
 use crate::machines::LOG;
 use bits::{copy_at, part};
-use machine::{Last, Machine, Mode, Phase, Repeat};
+use machine::{Machine, Mode, Phase, Repeat};
 use std::io;
 
 // The most packets of a row, and their bytes.
@@ -77,7 +77,7 @@ fn not_announced(place: usize) -> Machine {
     Machine {
         mode: Mode::Standard,
         phase: Phase::Started,
-        last: Last::Nothing,
+        last: None,
         again: Repeat::Barred,
         announced: false,
         taken: 7,

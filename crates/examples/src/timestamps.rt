@@ -1,18 +1,13 @@
 // Timestamps. An answer is shown by its number and values.
 use crate::show;
-use bits::wide;
+use bits::Refusal;
 use std::io;
-use timestamp::{Timestamp, TimestampRead};
+use timestamp::Timestamp;
 
-fn shown(rt: &impl Print, r: TimestampRead) -> io::Result<()> {
+fn shown(rt: &impl Print, r: Result<Timestamp, Refusal>) -> io::Result<()> {
     match r {
-        TimestampRead::Done(t) => show::two(rt, 0, t.value()),
-        TimestampRead::WrongLength => show::number(rt, 1),
-        TimestampRead::IncorrectPrefixBits { expected, actual } => {
-            show::number(rt, 13)?;
-            show::two(rt, wide(expected), wide(actual))
-        }
-        TimestampRead::MarkerBitNotSet { bit_number } => show::two(rt, 12, wide(bit_number)),
+        Ok(t) => show::two(rt, 0, t.value()),
+        Err(why) => show::refusal(rt, why),
     }?;
     show::end(rt)
 }
