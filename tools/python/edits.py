@@ -106,6 +106,19 @@ def read_mutants():
     return wrongs
 
 
+OWNER = re.compile(r"^impl(?:<[^>]*>)? (?:(?:\w+::)*(?P<trait>\w+)(?:<(?P<of>\w+)>)? for )?(?P<type>\w+)(?:<(?P<argument>\w+)>)?")
+
+
+def owner(line):
+    """The name that the prover gives an `impl`, from its first line: the type's, or 'EventKindTryFromU8' for `impl TryFrom<u8> for EventKind`
+    and 'OptionU16Told2' for `impl Told<2> for Option<u16>`."""
+    one = OWNER.match(line)
+    if not one["trait"]:
+        return one["type"]
+    words = (one["type"], one["argument"] or "", one["trait"], one["of"] or "")
+    return "".join(word[:1].upper() + word[1:] for word in words)
+
+
 def function_of(wrong):
     """The function that a wrong answer is in; None where it is in a constant."""
     change = wrong.changes[0]
@@ -117,11 +130,12 @@ def function_at(path, text, at):
     """The function in whose body a place of a source file lies, as the prover names it within its crate; None before the first and in a
     constant."""
     before = text[:at]
-    heads = re.findall(r'^( *)(?:pub )?(?:extern "C" )?(fn|const) (\w+)', before, re.M)
+    heads = re.findall(r'^( *)(?:pub(?:\(\w+\))? )?(?:extern "C" )?(fn|const) (\w+)', before, re.M)
     if not heads or heads[-1][1] == "const":
         return None
     indent, _, name = heads[-1]
-    kind = re.findall(r"^impl(?:<[^>]*>)? (\w+)", before, re.M)[-1] + "::" if indent else ""
+    impls = re.findall(r"^impl.*", before, re.M) if indent else []
+    kind = owner(impls[-1]) + "::" if impls else ""
     module = "" if path.stem in ("lib", "main") else path.stem + "::"
     return module + kind + name
 

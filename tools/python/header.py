@@ -10,7 +10,7 @@ A `&[u8]` of the sources is two C arguments, pointer and length; a `&mut` number
 import re
 import sys
 
-from answers import answers, defined_numbers
+from answers import answers, defined_numbers, variants
 from edits import TOP
 from sources import exports_of, unlike
 
@@ -82,11 +82,12 @@ def exported():
 
 
 def numbers():
-    """Of each number: its name and itself. The definitions say it; the constants of the code have to be equal."""
+    """Of each number: its name and itself. The definitions say it; the code's refusals, and the word of what is accepted, have to be equal."""
     found = [(name.upper(), number) for name, number in defined_numbers().items()]
-    code = re.findall(r"pub const (\w+): u32 = (\d+);", (TOP / "crates/host/src/numbers.rt").read_text())
-    if [(name, str(number)) for name, number in found] != code:
-        stop("the numbers of crates/bits/specs/Numbers.antt and crates/host/src/numbers.rt differ")
+    done = re.search(r"^pub const DONE: u32 = (\d+);", (TOP / "crates/host/src/told.rt").read_text(), re.M)
+    code = [("DONE", int(done[1])), *((re.sub(r"\B(?=[A-Z])", "_", name).upper(), number) for name, number in variants().items())]
+    if found != code:
+        stop("the numbers of crates/bits/specs/Numbers.antt and crates/bits/src/refusal.rt differ")
     return found
 
 

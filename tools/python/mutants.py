@@ -37,10 +37,11 @@ WORDS = {"u8": "i8", "u16": "i16", "u32": "i32", "u64": "i64", "usize": "i64"}
 # The module of the driver that most likely sees a wrong answer of a function, of a crate, or of its exported functions in of_CRATE.rt. It
 # looks first.
 LIKELY = {
-    "has_discontinuity": "standard", "is_same": "standard", "repeated": "standard", "out_of_order": "standard", "again_after": "standard",
-    "Machine::standard": "standard", "of_machine::cmv_machine_standard": "standard", "opens": "machine", "calls": "standard",
-    "due": "standard", "first_kind": "standard", "lead_room": "standard", "put_lead": "standard", "either": "standard",
-    "row::mode_of": "standard", "row::mode_number": "standard", "row::again_of": "standard", "row::again_number": "standard",
+    "has_discontinuity": "standard", "is_same": "standard", "repeated": "standard", "Machine::out_of_order": "standard",
+    "again_after": "standard", "Machine::standard": "standard", "of_machine::cmv_machine_standard": "standard", "opens": "machine",
+    "calls": "standard", "Machine::due": "standard", "announcement": "standard", "lead_room": "standard", "put_lead": "standard",
+    "Machine::past": "standard", "row::ModeTryFromU64::try_from": "standard", "row::U64FromMode::from": "standard",
+    "row::RepeatTryFromU64::try_from": "standard", "row::U64FromRepeat::from": "standard",
     "timestamp": "timestamp", "control": "control", "packet": "packet", "adaptation": "adaptation", "pes": "head", "contents": "contents",
     "event_log": "machine", "machine": "machine", "writer": "writer", "pes_header": "gather", "gather": "gather",
 }  # fmt: skip

@@ -74,10 +74,14 @@ def words_of(chunk):
     return re.findall(r"[^\s(),;∷≡\[\]]+", chunk)
 
 
-def find_functions(crate, name):
-    """The functions of a crate that a page means: that of the whole name, else those whose names end in it."""
-    found = functions(crate)
+def named(found, name):
+    """Of some functions those that a page means: that of the whole name, else those whose names end in it."""
     return [name] if name in found else [one for one in found if one.endswith("::" + name)]
+
+
+def find_functions(crate, name):
+    """The functions of a crate that a page means."""
+    return named(functions(crate), name)
 
 
 @functools.cache

@@ -30,13 +30,15 @@ from concurrent.futures import ThreadPoolExecutor
 from pathlib import Path
 
 from edits import BY_HAND, BY_THE_GATE, TOP, edit_files, function_of, changed_code, read_edits, read_mutants
-from sources import functions
+from sources import derived, functions
 
 # What the prover says of a proof that rests on another which it has refused, of one that was written for code of another shape, and where it
 # ends at a limit of its own: none of these is about the answer.
 FOLLOWS = re.compile(r"declarations? that depends? on .* not checked|was not admitted|cannot be checked")
 SHAPE = re.compile(r"has no field|has no `|is not in scope")
 LIMIT = re.compile(r"antt ran out of|outgrew the memory limit|stopped at the step limit")
+# Where a sentence goes on in a second line.
+SECOND_LINE = re.compile(r"(: error: .*)\n {2}(?=\S)")
 MEMORY = 4 << 20  # KiB that a check may take
 # A goal that has no answer, in the lines before that of its function; and an answer whose goal is gone.
 ASKED = re.compile(r"^note: src/\S+ it is not proved that .* \(`([^`]+)`\)", re.M)
@@ -51,7 +53,7 @@ def own_refusal(log, crate, dies, *passed_over):
     over."""
     answers = [dies] if dies.endswith(".antt") else [f"{dies.replace('::', '/')}/{name}.antt" for name in ("Answers", "Proof")]
     places = {f"./proofs/{name}" for name in answers}
-    for line in log.splitlines():
+    for line in SECOND_LINE.sub(r"\1 ", log).splitlines():
         where, found, said = line.partition(": error: ")
         if found and re.sub(r":\d+:\d+$", "", where) in places and not any(pattern.search(said) for pattern in passed_over):
             return said
@@ -233,7 +235,7 @@ def lacks(wrong):
     elif wrong.dies.endswith(".antt"):
         if not (TOP / "crates" / wrong.crate / "proofs" / wrong.dies).is_file():
             yield f"{wrong.crate} has no proofs/{wrong.dies}"
-    elif wrong.dies not in functions(wrong.crate):
+    elif wrong.dies not in functions(wrong.crate) and wrong.dies not in derived(wrong.crate):
         yield f"{wrong.crate} has no function {wrong.dies}"
 
 

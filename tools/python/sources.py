@@ -6,7 +6,7 @@ import re
 import sys
 from typing import NamedTuple
 
-from edits import TOP, edit_files, read_edits
+from edits import TOP, edit_files, owner as owner_of, read_edits
 
 PROGRAMS = ("lister", "examples", "recorded")  # no other crate calls them
 PRIVATE = "-- ---- cited by private functions alone"  # what a reader of a file of definitions may skip, from here to its end
@@ -41,13 +41,14 @@ def below(crate):
 
 class Function(NamedTuple):
     public: bool
-    head: str  # parameters and promise
+    of_trait: bool
+    head: str  # parameters and promise; of a trait's function also what the impl says before it
 
 
-HEAD = re.compile(r'^(?P<indent> *)(?P<pub>pub )?(?:extern "C" )?fn (?P<name>\w+)')
-OWNER = re.compile(r"^impl(?:<[^>]*>)? (\w+)")
+HEAD = re.compile(r'^(?P<indent> *)(?:(?P<pub>pub )|pub\(\w+\) )?(?:extern "C" )?fn (?P<name>\w+)')
+OF_TRAIT = re.compile(r"impl\b.* for ")
 # a type, a constant or a module, or a case of an enum
-NAMED = re.compile(r"^ *(?:pub )?(?:struct|enum|const|mod) (\w+)|^    ([A-Z]\w*)(?:,$|\(| \{)", re.M)
+NAMED = re.compile(r"^ *(?:pub(?:\(\w+\))? )?(?:struct|enum|const|mod) (\w+)|^    ([A-Z]\w*)(?:,$|\(| \{)", re.M)
 
 
 def code(crate):
@@ -68,19 +69,22 @@ def functions(crate):
     found = {}
     for path in code(crate):
         module = "" if path.stem in ("lib", "main") else path.stem + "::"
-        lines, owner = path.read_text().splitlines(), ""
+        lines, owner, impl = path.read_text().splitlines(), "", 0
         for number, line in enumerate(lines):
-            if impl := OWNER.match(line):
-                owner = impl[1] + "::"
+            if line.startswith("impl"):
+                owner, impl = owner_of(line) + "::", number
             elif head := HEAD.match(line):
                 name = module + (owner if head["indent"] else "") + head["name"]
-                found[name] = Function(bool(head["pub"]), head_from(lines[number:]))
+                of_trait = bool(head["indent"] and OF_TRAIT.match(lines[impl]))
+                said = lines[impl:number] if of_trait else []
+                found[name] = Function(bool(head["pub"]), of_trait, "\n".join([*said, head_from(lines[number:])]))
     return found
 
 
 @functools.cache
 def public_functions(crate):
-    """Those that another crate can call. Those of a static library are the same functions of another crate, for C (`unlike`)."""
+    """Those that another crate can call, but for the functions of traits. Those of a static library are the same functions of another crate, for C
+    (`unlike`)."""
     return {} if crate in PROGRAMS or exports_of(crate) else {name: one for name, one in functions(crate).items() if one.public}
 
 
@@ -157,3 +161,18 @@ def wrong_answers(crate):
         if names.count(name) > 1:
             sys.exit(f"{crate}: two wrong answers are named {name}")
     return {wrong.name: wrong.dies for wrong in wrongs}
+
+
+DERIVED = re.compile(r"^#\[derive\(([^)]*)\)\]\n(?:pub(?:\(\w+\))? )?(?:struct|enum) (\w+)", re.M)
+METHODS = {"PartialEq": "eq", "Debug": "fmt"}
+
+
+@functools.cache
+def derived(crate):
+    """The functions that a derive writes, by the names that the prover gives them: functions of traits, as those of impls are."""
+    found = set()
+    for path in code(crate):
+        module = "" if path.stem in ("lib", "main") else path.stem + "::"
+        for traits, owner in DERIVED.findall(path.read_text()):
+            found |= {f"{module}{owner}{trait}::{METHODS[trait]}" for trait in traits.split(", ") if trait in METHODS}
+    return found

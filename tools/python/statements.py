@@ -2,8 +2,9 @@
 
 It makes, in place: the edits of each public function in docs/STATEMENTS.md, the lines of each file of definitions in docs/READING.md, and
 the counts of each crate in docs/PERFORMANCE.md. With --check it writes nothing and names the pages that would change. In both cases it
-looks whether every name that docs/STATEMENTS.md, docs/COVERAGE.md and docs/READING.md cite is there, whether every public function has one
-row and every wrong answer is told, and whether every file that a page names is there. The exit status is 1 where something is wrong.
+looks whether every name that docs/STATEMENTS.md, docs/COVERAGE.md and docs/READING.md cite is there, whether every public function and every
+function of a trait with a wrong answer has one row and every wrong answer is told, and whether every file that a page names is there. The exit
+status is 1 where something is wrong.
 """
 
 import re
@@ -11,10 +12,12 @@ import sys
 
 import counts
 import coverage
-from pages import Page, cells, find_functions, look_for_files, plain, quoted, row, unknown_names
-from sources import TOP, crates, public_functions, wrong_answers
+from pages import Page, cells, look_for_files, named, plain, quoted, row, unknown_names
+from sources import TOP, crates, derived, functions, public_functions, wrong_answers
 
 FUNCTIONS = ["function", "promise", "one answer", "rules out", "edit"]
+OF_TRAITS = ["function of a trait", *FUNCTIONS[1:]]
+EQUAL = re.compile(r"`==` of `(\w+)`, derived")
 RULES = ["rule", "rules out", "edit"]
 WORD = re.compile(r"[^\s(),;:.∷≡{}\[\]]+")  # of a promise
 NAME = re.compile(r"\b[a-z][a-z0-9]*(?:_[a-z0-9]+)+\b")  # outside backticks: a wrong answer
@@ -32,7 +35,7 @@ def make_edits(crate, name, cell):
 
 def look_at_promise(page, at, crate, name, words):
     """What a row says of the promise has to stand in it, and no promise has a premise."""
-    head = public_functions(crate)[name].head
+    head = functions(crate)[name].head
     for word in (word for chunk in quoted(words[1]) for word in WORD.findall(chunk)):
         if word not in WORD.findall(head):
             page.fault(at, f"the promise of {crate}::{name} has no `{word}`")
@@ -45,16 +48,21 @@ def look_at_promise(page, at, crate, name, words):
         page.fault(at, f"{crate}::{name} has a `requires`")
 
 
-def function_row(page, at, crate, rows):
-    """A row of a public function: its edits are made, the rest is looked at."""
+def of_traits(crate):
+    """The functions of traits: those of impls, and those that derives write."""
+    return {name for name, one in functions(crate).items() if one.of_trait} | derived(crate)
+
+
+def function_row(page, at, crate, allowed, rows):
+    """A row of a function: its edits are made, the rest is looked at. No promise of what a derive writes stands in the sources."""
     words = cells(page.lines[at])
-    name = words[0].strip("`").removeprefix(f"{crate}::")
-    found = [one for one in find_functions(crate, name) if one in public_functions(crate)]
+    found = named(allowed, EQUAL.sub(r"\1PartialEq::eq", words[0]).strip("`").removeprefix(f"{crate}::"))
     if len(found) != 1 or len(words) != len(FUNCTIONS):
-        page.fault(at, f"no row of a public function of {crate}: {words[0]}")
+        page.fault(at, f"no row of a function of {crate} that can have one: {words[0]}")
         return
     rows.append(found[0])
-    look_at_promise(page, at, crate, found[0], words)
+    if found[0] in functions(crate):
+        look_at_promise(page, at, crate, found[0], words)
     edits = make_edits(crate, found[0], words[4])
     page.lines[at] = row([*words[:4], ", ".join(edits) or "none"])
     if edits and words[3].count(";") + 1 != len(edits):
@@ -66,11 +74,11 @@ def function_row(page, at, crate, rows):
 def section_block(page, crate, block, rows, told):
     """A block of a crate's section: a table of functions or of rules, or a paragraph, in which names of wrong answers stand outside
     backticks and all others in them."""
-    of_functions, of_rules = page.rows(block, FUNCTIONS), page.rows(block, RULES)
-    if of_functions:
+    public, in_traits, of_rules = (page.rows(block, columns) for columns in (FUNCTIONS, OF_TRAITS, RULES))
+    if public or in_traits:
         cited = []
-        for at in of_functions:
-            function_row(page, at, crate, rows)
+        for at in public or in_traits:
+            function_row(page, at, crate, public_functions(crate) if public else of_traits(crate), rows)
     elif of_rules:
         cited = [(at, name) for at in of_rules for name in listed(cells(page.lines[at])[2])]
     else:
@@ -85,7 +93,7 @@ def section_block(page, crate, block, rows, told):
 
 def look_at_crate(page, crate, rows, told):
     at = page.lines.index(f"## {crate}") if f"## {crate}" in page.lines else 0
-    for name in public_functions(crate):
+    for name in sorted({*public_functions(crate), *(of_traits(crate) & set(wrong_answers(crate).values()))}):
         if rows.count(name) != 1:
             page.fault(at, f"{crate}::{name} has {rows.count(name)} rows")
     for name in wrong_answers(crate):
