@@ -1,4 +1,4 @@
--- Some most p + s events, and one more where `more` says so; and the log that is enough for them.
+-- At most p + s events, and one more where `more` says so; and the log that is enough for them.
 -- Assumes nothing.
 use mathlib.Core.Path.{◌≡◌, refl, ap}
 use mathlib.Core.Bool.{Bool, true, false, ◌||◌}

@@ -3,6 +3,7 @@
 use mathlib.Core.Path.{◌≡◌, refl, sym, ap, ap₂, ◌∙◌}
 use mathlib.Core.Bool.{Bool, true, false, ◌&&◌}
 use mathlib.Core.List.{List, [], ◌∷◌}
+use mathlib.Core.Logic.{◌↔◌}
 use Prim.Native.Nat.{ℕ, ◌+◌, ◌*◌, ◌^◌}
 use native.Mathlib.Omega.{arith}
 use lib.Dec.{eqb, ltb}
@@ -89,6 +90,16 @@ wrapped v s x y b p q h =
 both-same : (t u : Bool) → (t && u) ≡ pick t u false
 both-same true u = refl
 both-same false u = refl
+
+-- the test of two pairs says just when they are one clock reference
+pub pair_same : (b e b' e' : ℕ) → (same_pair b e b' e' ≡ true) ↔ (clock b e ≡ clock b' e')
+unfolding same_pair
+pair_same b e b' e' =
+    (go (eqb b b') refl, λ h. simp (eq-eqb b b' (ap (λ (c : ClockRef). c.base) h), eq-eqb e e' (ap (λ (c : ClockRef). c.extension) h)))
+  where
+    go : (t : Bool) → eqb b b' ≡ t → pick t (eqb e e') false ≡ true → clock b e ≡ clock b' e'
+    go true h k = ap₂ clock (eqb-true b b' h) (eqb-true e e' k)
+    go false h k = let z : ◌≡◌ {A = ℕ} 0 1 = ap truth k in absurd (omega arith)
 
 pub same-clock : (b e b' e' : ℕ) (c d : ClockRef) (s : Bool) → answer 0 (clock_values c) ≡ make_clock b e → answer 0 (clock_values d) ≡ make_clock b' e'
     → s ≡ (eqb c.base d.base && eqb c.extension d.extension) → answer 0 (truth s ∷ []) ≡ same_answer b e b' e'
