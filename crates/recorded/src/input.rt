@@ -1,4 +1,5 @@
 // A line of the input: two hex digits to a byte, put together as they come.
+ghost use Rattle.std.specs.Prelude.{◌≤◌, IfSome, length};
 
 // The most bytes of a query.
 const ROOM: usize = 256;
@@ -54,7 +55,9 @@ impl Line {
     }
 
     // The bytes that the digits make.
-    pub fn query(&self) -> Option<&[u8]> {
+    pub fn query(&self) -> Option<&[u8]>
+        ensures { IfSome result (λ bytes. length bytes.now ≤ 256) }
+    {
         let digits = self.digits?;
         if digits % 2 == 1 {
             return None;
