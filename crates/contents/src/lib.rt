@@ -306,15 +306,22 @@ impl<'a> PesParsedContents<'a> {
         )
     }
 
-    #[tactic(auto, using(crate::proofs::Laws::rate_laws))]
     pub fn es_rate(self) -> Result<EsRate, Refusal>
+        ensures { given rate_values result ≡ read_es_rate self.entry.fixed.buf.now }
+    {
+        self.es_rate_from(self.fixed.escr_end())
+    }
+
+    // `es_rate`, where its place is known. The readers after it have such a one too.
+    #[tactic(auto, using(crate::proofs::Laws::rate_laws))]
+    fn es_rate_from(self, at: usize) -> Result<EsRate, Refusal>
+        requires { at ≡ es_rate_at self.fixed.buf.now }
         ensures { given rate_values result ≡ read_es_rate self.entry.fixed.buf.now }
     {
         if !self.fixed.esrate_flag() {
             return Err(Refusal::FieldNotPresent);
         }
         let buf = self.fixed.buf;
-        let at = self.fixed.escr_end();
         Ok(EsRate(rate_of(buf[at], buf[at + 1], buf[at + 2])))
     }
 
@@ -326,48 +333,74 @@ impl<'a> PesParsedContents<'a> {
     }
 
     // The trick mode byte as it stands. Added: the original gives the control number where the table has data bits.
-    #[tactic(auto, using(crate::proofs::Laws::raw_laws))]
     pub fn raw_trick_mode(self) -> Result<u8, Refusal>
+        ensures { given number_values result ≡ read_raw_trick self.entry.fixed.buf.now }
+    {
+        self.raw_trick_mode_from(self.fixed.es_rate_end())
+    }
+
+    #[tactic(auto, using(crate::proofs::Laws::raw_laws))]
+    fn raw_trick_mode_from(self, at: usize) -> Result<u8, Refusal>
+        requires { at ≡ trick_at self.fixed.buf.now }
         ensures { given number_values result ≡ read_raw_trick self.entry.fixed.buf.now }
     {
         if !self.fixed.dsm_trick_mode_flag() {
             return Err(Refusal::FieldNotPresent);
         }
-        Ok(self.fixed.buf[self.fixed.es_rate_end()])
+        Ok(self.fixed.buf[at])
+    }
+
+    pub fn additional_copy_info(self) -> Result<u8, Refusal>
+        ensures { given number_values result ≡ read_copy_info self.entry.fixed.buf.now }
+    {
+        self.additional_copy_info_from(self.fixed.dsm_trick_mode_end())
     }
 
     #[tactic(auto, using(crate::proofs::Laws::copy_laws))]
-    pub fn additional_copy_info(self) -> Result<u8, Refusal>
+    fn additional_copy_info_from(self, at: usize) -> Result<u8, Refusal>
+        requires { at ≡ copy_info_at self.fixed.buf.now }
         ensures { given number_values result ≡ read_copy_info self.entry.fixed.buf.now }
     {
         if !self.fixed.additional_copy_info_flag() {
             return Err(Refusal::FieldNotPresent);
         }
-        copy_info_of(self.fixed.buf[self.fixed.dsm_trick_mode_end()])
+        copy_info_of(self.fixed.buf[at])
     }
 
     // The checksum of the packet before; nothing is checked by it.
-    #[tactic(auto, using(crate::proofs::Laws::crc_laws))]
     pub fn previous_pes_packet_crc(self) -> Result<u16, Refusal>
+        ensures { given number_values result ≡ read_crc self.entry.fixed.buf.now }
+    {
+        self.previous_pes_packet_crc_from(self.fixed.additional_copy_info_end())
+    }
+
+    #[tactic(auto, using(crate::proofs::Laws::crc_laws))]
+    fn previous_pes_packet_crc_from(self, at: usize) -> Result<u16, Refusal>
+        requires { at ≡ crc_at self.fixed.buf.now }
         ensures { given number_values result ≡ read_crc self.entry.fixed.buf.now }
     {
         if !self.fixed.pes_crc_flag() {
             return Err(Refusal::FieldNotPresent);
         }
         let buf = self.fixed.buf;
-        let at = self.fixed.additional_copy_info_end();
         Ok(crc_of(buf[at], buf[at + 1]))
     }
 
     // Where the PES extension lies: from the end of the flagged fields to the end of the header data.
-    #[tactic(auto, using(crate::proofs::Laws::part_laws))]
     pub fn pes_extension_at(self) -> Result<Extent, Refusal>
+        ensures { given extent_values result ≡ read_pes_extension self.entry.fixed.buf.now }
+    {
+        self.pes_extension_from(self.fixed.pes_crc_end())
+    }
+
+    #[tactic(auto, using(crate::proofs::Laws::part_laws))]
+    fn pes_extension_from(self, place: usize) -> Result<Extent, Refusal>
+        requires { place ≡ fields_end self.fixed.buf.now }
         ensures { given extent_values result ≡ read_pes_extension self.entry.fixed.buf.now }
     {
         if !self.fixed.pes_extension_flag() {
             return Err(Refusal::FieldNotPresent);
         }
-        let place = self.fixed.pes_crc_end();
         let end = self.fixed.header_end();
         Ok(Extent {
             place,
@@ -393,6 +426,69 @@ impl<'a> PesParsedContents<'a> {
         ensures { answer done (places_values result) ≡ read_places self.entry.fixed.buf.now }
     {
         placed(&FIELD_ENDS, self.fixed.buf[1], self.fixed.header_end())
+    }
+
+    // With all places, for whoever reads more than one field. Added.
+    #[tactic(auto, using(crate::proofs::Laws::part_laws))]
+    pub fn located(self) -> Located<'a>
+        ensures { result.contents.fixed.buf.now ≡ self.entry.fixed.buf.now }
+    {
+        Located {
+            contents: self,
+            places: self.places(),
+        }
+    }
+}
+
+// Accepted contents with the places of their fields, which are looked up once.
+#[derive(Clone, Copy)]
+pub struct Located<'a> {
+    contents: PesParsedContents<'a>,
+    places: Places,
+    ghost looked_up: { places_values places ≡ places_of contents.fixed.buf.now ++ payload_at contents.fixed.buf.now ∷ [] },
+}
+
+#[tactic(auto, using(crate::proofs::Laws::raw_laws), unfolding(crate::specs::Contents::places_of))]
+impl<'a> Located<'a> {
+    pub fn es_rate(self) -> Result<EsRate, Refusal>
+        ensures { given rate_values result ≡ read_es_rate self.entry.contents.fixed.buf.now }
+    {
+        self.contents.es_rate_from(self.places.es_rate)
+    }
+
+    pub fn dsm_trick_mode(self) -> Result<DsmTrickMode, Refusal>
+        ensures { given trick_values result ≡ read_trick self.entry.contents.fixed.buf.now }
+    {
+        let byte = self.raw_trick_mode()?;
+        Ok(trick_of(byte))
+    }
+
+    // The trick mode byte as it stands.
+    pub fn raw_trick_mode(self) -> Result<u8, Refusal>
+        ensures { given number_values result ≡ read_raw_trick self.entry.contents.fixed.buf.now }
+    {
+        self.contents
+            .raw_trick_mode_from(self.places.dsm_trick_mode)
+    }
+
+    pub fn additional_copy_info(self) -> Result<u8, Refusal>
+        ensures { given number_values result ≡ read_copy_info self.entry.contents.fixed.buf.now }
+    {
+        self.contents
+            .additional_copy_info_from(self.places.additional_copy_info)
+    }
+
+    pub fn previous_pes_packet_crc(self) -> Result<u16, Refusal>
+        ensures { given number_values result ≡ read_crc self.entry.contents.fixed.buf.now }
+    {
+        self.contents
+            .previous_pes_packet_crc_from(self.places.previous_pes_packet_crc)
+    }
+
+    pub fn pes_extension_at(self) -> Result<Extent, Refusal>
+        ensures { given extent_values result ≡ read_pes_extension self.entry.contents.fixed.buf.now }
+    {
+        self.contents.pes_extension_from(self.places.pes_extension)
     }
 }
 

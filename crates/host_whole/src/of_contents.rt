@@ -33,12 +33,13 @@ fn put_contents(buf: &[u8], fields: &mut [u64; 34]) -> Result<(), Refusal>
     put_fixed(c, fields);
     put_row(c.pts_dts(), 7, fields);
     put_row(c.escr(), 13, fields);
-    put_row(c.es_rate(), 16, fields);
-    put_row(c.dsm_trick_mode(), 18, fields);
-    put_row(c.raw_trick_mode(), 23, fields);
-    put_row(c.additional_copy_info(), 25, fields);
-    put_row(c.previous_pes_packet_crc(), 27, fields);
-    put_row(c.pes_extension_at(), 29, fields);
+    let located = c.located();
+    put_row(located.es_rate(), 16, fields);
+    put_row(located.dsm_trick_mode(), 18, fields);
+    put_row(located.raw_trick_mode(), 23, fields);
+    put_row(located.additional_copy_info(), 25, fields);
+    put_row(located.previous_pes_packet_crc(), 27, fields);
+    put_row(located.pes_extension_at(), 29, fields);
     put(c.payload_at(), 32, fields);
     Ok(())
 }

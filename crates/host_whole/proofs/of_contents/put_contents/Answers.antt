@@ -36,6 +36,7 @@ returns-clause-left c =
       c.additional_copy_info.ensures,
       c.previous_pes_packet_crc.ensures,
       c.pes_extension_at.ensures,
+      c.located-located.ensures,
       payload,
     ) refl)
     ∙ from-the-front (fixed_fields b ++ row 5 (read_pts_dts b)) (row 2 (read_escr b)) (row 1 (read_es_rate b)) (row 4 (read_trick b))
