@@ -19,7 +19,7 @@ use Rattle.bits.specs.declared.refusal.Refusal.{Refusal}
 use Rattle.bits.proofs.Bools.{neither-holds}
 use Rattle.bits.proofs.Checks.{Off, first_of-off, other-false}
 use Rattle.bits.proofs.Refusals.{refused-not_done, refused_above}
-use Rattle.bits.proofs.Parts.{part_in, placed-none, placed_in, placed_out}
+use Rattle.bits.proofs.Parts.{part_cut, part_in, placed-none, placed_in, placed_out}
 use Rattle.packet.specs.Packet.{not_packet, tried}
 use Rattle.packet.proofs.Laws.{first-after}
 use Rattle.pes_header.specs.Payload.{header_payload}
@@ -198,7 +198,7 @@ number-steps g p e s = grind arith
 
 pub ruleset append_laws = (overwritten, overwrites, placed_out)
 
-pub ruleset apply_laws = (named, part_short, placed-none)
+pub ruleset apply_laws = (named, part_cut, part_short, placed-none)
 
 pub ruleset held_laws = (read-steps, refused_above)
 

@@ -144,12 +144,13 @@ fn apply(
         × (store.new ≡ placed_at store.old (kept g event) (added g packet.now event)) }
 {
     let place = event.place as usize;
-    let named = &packet[place..place + event.length as usize];
+    let end = place + event.length as usize;
     match kind {
         EventKind::StartStream => Ok(g),
         EventKind::BeginPacket => {
+            let named = &packet[place..end];
             let own = own_part(named);
-            let count = append(own.of(named), store, 0)?;
+            let count = append(&named[own.place..own.place + own.length], store, 0)?;
             Ok(Gathering {
                 opened: true,
                 count,
@@ -157,7 +158,7 @@ fn apply(
             })
         }
         EventKind::ContinuePacket if g.opened => {
-            let count = append(named, store, g.count)?;
+            let count = append(&packet[place..end], store, g.count)?;
             Ok(Gathering {
                 opened: true,
                 count,
